@@ -1,0 +1,3 @@
+-- What the contracts of `numbers` cite.
+pub mod Divisor
+pub mod Remainder

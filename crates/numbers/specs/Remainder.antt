@@ -1,0 +1,23 @@
+-- Congruence and the remainder, from 0 to g less 1 also of a negative number. Definitions alone.
+use mathlib.Core.Path.{_≡_, refl}
+use Prim.Native.Nat.{ℕ, _-_, _%_, _<_}
+use lib.IntN.{ℤ, pos, negsuc, _+ℤ_, _*ℤ_}
+
+-- a and b differ by a multiple of g
+pub record Cong (g : ℕ) (a b : ℤ) : Type 0 where
+  pub times : ℤ
+  pub apart : a ≡ b +ℤ (times *ℤ pos g)
+
+-- r is below g and differs from z by a multiple of g
+pub record IsRemainder (z : ℤ) (g r : ℕ) : Type 0 where
+  pub below : r < g
+  pub cong : Cong g z (pos r)
+
+-- the one number that `IsRemainder` allows, computed: -(n + 1) leaves what n leaves, counted down from g - 1
+unfoldable pub remainder : ℤ → ℕ → ℕ
+remainder (pos n) g = n % g
+remainder (negsuc n) g = (g - 1) - n % g
+
+minus-35-by-20 : remainder (negsuc 34) 20 ≡ 5
+unfolding remainder
+minus-35-by-20 = refl
