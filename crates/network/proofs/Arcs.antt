@@ -1,0 +1,130 @@
+-- The laws of one arc of a well-formed network, of the cost and of a row that is written in order. Assumes nothing.
+use mathlib.Core.Path.{_≡_, refl, sym, ap, _∙_}
+use mathlib.Core.List.{List}
+use Prim.Native.Nat.{ℕ, zero, suc, _+_, _*_, _≤_, _<_}
+use native.Mathlib.Nat.{mul-le-mul}
+use native.Mathlib.Numerals.{add-one}
+use native.Mathlib.Omega.{arith}
+use lib.IntN.{ℤ, pos, natAbs, _+ℤ_, _-ℤ_}
+use lib.Signed.{mag}
+use mir.Syntax.{w32}
+use mir.Val.{toZ, ofZ}
+use lib.ListN.{length, set, length-set}
+use Rattle.numbers.proofs.Bits.{of}
+use Rattle.numbers.proofs.Remainders.{remainder-below}
+use Rattle.network.specs.Network.{Network, at, tail, head, lower, weight}
+use Rattle.network.specs.PublicRule.{arcPeriod, slack, tension, arcCost, costTo}
+use Rattle.network.specs.Rows.{written}
+use Rattle.network.specs.Trial.{AsksPeriod}
+use Rattle.network.specs.Inner.{TimedArc, TimedEnd}
+use Rattle.network.proofs.Sound.{Inside, Sound, sound, arc-period}
+
+-- a signed result of a call is passed on as it is
+pub kept : {z : ℤ} → mag z < 2147483648 → toZ w32 (ofZ w32 z) ≡ z
+kept {z} h = of {z = z} (record { sfits = h }) .is
+
+-- weight times slack
+pub product-small : {w s : ℕ} → w ≤ 10000 → s < 3600 → w * s ≤ 36000000
+product-small h k = mul-le-mul {m₂ = 3600} h (omega arith)
+
+module _ {N : Network} {t : List ℕ} {a : ℕ} (c : TimedArc N t a) where
+  has : Sound N
+  has = sound N (c .timed .well)
+
+  pub arc-small : a < 256
+  arc-small = omega (arith, c .arc, has .even .few-arcs)
+
+  pub asks-period : AsksPeriod N a
+  asks-period = record { arc = c .arc; heads-long = has .even .heads-long; ends = has .ends a (c .arc) }
+
+  pub tail-end : TimedEnd (N .tails) t a
+  tail-end = record { arc = c .arc; event = omega (arith, c .timed .long, has .ends a (c .arc) .tail-in) }
+
+  pub head-end : TimedEnd (N .heads) t a
+  head-end = record {
+    arc = omega (arith, c .arc, has .even .heads-long);
+    event = omega (arith, c .timed .long, has .ends a (c .arc) .head-in);
+  }
+
+  pub in-lowers : a < length (N .lowers)
+  in-lowers = omega (arith, c .arc, has .even .lowers-long)
+
+  pub in-uppers : a < length (N .uppers)
+  in-uppers = omega (arith, c .arc, has .even .uppers-long)
+
+  pub in-weights : a < length (N .weights)
+  in-weights = omega (arith, c .arc, has .even .weights-long)
+
+  pub period-of : Inside 1 3600 (arcPeriod N a)
+  period-of = arc-period N a has (c .arc)
+
+  pub lower-of : natAbs (lower N a) ≤ 7200
+  lower-of = has .lower-small a (c .arc)
+
+  pub weight-of : weight N a ≤ 10000
+  weight-of = has .weights a (c .arc) .most
+
+  pub slack-small : slack N t a < 3600
+  unfolding slack
+  slack-small =
+      omega (arith, period-of, remainder-below ((pos (at t (head N a)) -ℤ pos (at t (tail N a))) -ℤ lower N a) (arcPeriod N a) (period-of .some))
+
+  -- lower, as a call handed it on
+  pub lower-kept : {z : ℤ} → z ≡ lower N a → natAbs z ≤ 7200
+  lower-kept e = rw e lower-of
+
+  pub slack-kept : {s : ℕ} → s ≡ slack N t a → s < 3600
+  slack-kept e = rw e slack-small
+
+  -- what one arc costs
+  pub cost-small : arcCost N t a ≤ 36000000
+  unfolding arcCost
+  cost-small = product-small weight-of slack-small
+
+-- ---- the cost, arc by arc
+
+-- the cost of the arcs passed, and that it stays small
+pub record Summed (N : Network) (t : List ℕ) (a sum : ℕ) : Type 0 where
+  pub is : sum ≡ costTo N t a
+  pub small : sum ≤ a * 36000000
+
+pub summed-none : (N : Network) (t : List ℕ) → Summed N t 0 0
+unfolding costTo
+summed-none N t = record { is = refl; small = omega arith }
+
+module _ {N : Network} {t : List ℕ} {a sum x s : ℕ} (c : TimedArc N t a) (p : Summed N t a sum) (e : x ≡ weight N a * s) (q : s ≡ slack N t a) where
+  costs : x ≡ arcCost N t a
+  unfolding arcCost
+  costs = e ∙ ap (λ (n : ℕ). weight N a * n) q
+
+  pub summed-fits : sum + x ≤ 256 * 36000000
+  summed-fits = omega (arith, costs, cost-small c, p .small, arc-small c)
+
+  pub summed-more : Summed N t (a + 1) (sum + x)
+  unfolding costTo
+  summed-more = record {
+    is = (λ j. p .is j + costs j) ∙ ap (costTo N t) (sym (add-one a));
+    small = omega (arith, costs, cost-small c, p .small);
+  }
+
+pub summed-all : {N : Network} {t : List ℕ} {a m sum : ℕ} → Summed N t a sum → a ≡ m → sum ≡ costTo N t m
+summed-all {N} {t} p e = p .is ∙ ap (costTo N t) e
+
+-- ---- the row, entry by entry
+
+pub tension-is : (N : Network) (t : List ℕ) (a : ℕ) {z low : ℤ} {s : ℕ} → z ≡ low +ℤ pos s → low ≡ lower N a → s ≡ slack N t a → z ≡ tension N t a
+unfolding tension
+tension-is N t a e l q = e ∙ (λ j. l j +ℤ pos (q j))
+
+pub written-none : {A : Type 0} (f : ℕ → A) (row : List A) → row ≡ written f 0 row
+unfolding written
+written-none f row = refl
+
+pub written-more : {A : Type 0} (f : ℕ → A) (k : ℕ) (row : List A) → set (written f k row) k (f k) ≡ written f (k + 1) row
+unfolding written
+written-more f k row = ap (λ (n : ℕ). written f n row) (sym (add-one k))
+
+pub written-length : {A : Type 0} (f : ℕ → A) (k : ℕ) (row : List A) → length (written f k row) ≡ length row
+unfolding written
+written-length f zero row = refl
+written-length f (suc k) row = length-set (written f k row) k (f k) ∙ written-length f k row

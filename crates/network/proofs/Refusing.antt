@@ -1,0 +1,121 @@
+-- From what a scan found to the answer of a table, one law for each way. Assumes nothing.
+use mathlib.Core.Path.{_≡_, refl, sym, ap, _∙_}
+use mathlib.Core.List.{List, [], _∷_, _++_}
+use mathlib.Core.Bool.{Bool, true, false, cond, _&&_}
+use Prim.Native.Nat.{ℕ, _≤_, _<_}
+use native.Mathlib.Omega.{arith}
+use borrow.Author.Tests.{lt-ltb, ltb-true, ltb-false}
+use lib.Dec.{ltb, eqb}
+use Rattle.network.specs.declared.Answer.{Answer}
+use Rattle.network.specs.First.{First}
+use Rattle.network.specs.Refusals.{Refusal, answer, once, placeOf, answerOf}
+use Rattle.network.specs.Trial.{named}
+use Rattle.network.proofs.Scans.{first-is, first-one, true-false}
+
+-- a line applies nowhere
+pub record Clear (r : Refusal) : Type 0 where
+  pub nowhere : (i : ℕ) → i < r .places → r .applies i ≡ false
+
+-- ---- from what a scan found to the answer: one law for each way
+
+abbrev pub Found : Refusal → ℕ → Type 0
+Found r p = First (r .applies) (r .places) p
+
+pub refused : {r : Refusal} {p : ℕ} (rs : List Refusal) (x : ℕ) → Found r p → p < r .places → answerOf (r ∷ rs) x ≡ answer (r .code) p 0
+unfolding answerOf
+refused {r} {p} rs x f h = rw (first-one (first-is (r .applies) (r .places)) f, lt-ltb p (r .places) h)
+
+pub once-refused : (c : ℕ) {b : Bool} → b ≡ true → Found (once c b) 0
+once-refused c e = record { within = omega arith; before = λ j h. absurd (omega arith); found = λ h. e }
+
+pub once-clear : (c : ℕ) {b : Bool} → b ≡ false → Clear (once c b)
+once-clear c e = record { nowhere = λ i h. e }
+
+pub clear-of : {r : Refusal} {p : ℕ} → Found r p → r .places ≤ p → Clear r
+clear-of f h = record { nowhere = λ i l. f .before i (omega arith) }
+
+pub passed : {r : Refusal} (rs : List Refusal) (x : ℕ) → Clear r → answerOf (r ∷ rs) x ≡ answerOf rs x
+unfolding answerOf
+passed {r} rs x c = go (ltb (placeOf r) (r .places)) refl
+  where
+    go : (b : Bool) → ltb (placeOf r) (r .places) ≡ b → cond b (answer (r .code) (placeOf r) 0) (answerOf rs x) ≡ answerOf rs x
+    go true e =
+        let h : placeOf r < r .places = ltb-true (placeOf r) (r .places) e in
+        absurd (true-false (first-is (r .applies) (r .places) .found h) (c .nowhere (placeOf r) h))
+    go false e = refl
+
+-- ---- a table in parts: none of the first lines applies, or one does
+
+pub data AllClear : List Refusal → Type 0 where
+  none : AllClear []
+  more : {r : Refusal} {rs : List Refusal} → Clear r → AllClear rs → AllClear (r ∷ rs)
+
+pub front : (rs ss : List Refusal) → AllClear (rs ++ ss) → AllClear rs
+front [] ss c = none
+front (r ∷ rs) ss (more k c) = more k (front rs ss c)
+
+pub goes-on : {rs : List Refusal} (ss : List Refusal) (x : ℕ) → AllClear rs → answerOf (rs ++ ss) x ≡ answerOf ss x
+goes-on ss x none = refl
+goes-on ss x (more {rs = rs} c cs) = passed (rs ++ ss) x c ∙ goes-on ss x cs
+
+pub stops : (rs ss : List Refusal) (x : ℕ) → (answerOf rs 0 .code ≡ 0 → ⊥) → answerOf (rs ++ ss) x ≡ answerOf rs 0
+unfolding answerOf
+stops [] ss x n = absurd (n refl)
+stops (r ∷ rs) ss x n = go (ltb (placeOf r) (r .places)) n (stops rs ss x)
+  where
+    go : (b : Bool) → (cond b (answer (r .code) (placeOf r) 0) (answerOf rs 0) .code ≡ 0 → ⊥) → ((answerOf rs 0 .code ≡ 0 → ⊥) → answerOf (rs ++ ss) x ≡ answerOf rs 0)
+        → cond b (answer (r .code) (placeOf r) 0) (answerOf (rs ++ ss) x) ≡ cond b (answer (r .code) (placeOf r) 0) (answerOf rs 0)
+    go true n s = refl
+    go false n s = s n
+
+-- each code in its case: no line before it applies, and it does, first at this place
+pub refuses : {fs bs : List Refusal} {r : Refusal} {p : ℕ} (rs : List Refusal) (x : ℕ) → AllClear fs → AllClear bs → Found r p → p < r .places
+    → answer (r .code) p 0 ≡ answerOf (fs ++ (bs ++ (r ∷ rs))) x
+refuses {bs = bs} {r = r} rs x c d f h = sym (goes-on (bs ++ (r ∷ rs)) x c ∙ goes-on (r ∷ rs) x d ∙ refused rs x f h)
+
+-- and code 0 where none does
+pub clear-all : {rs : List Refusal} (x : ℕ) → AllClear rs → answerOf rs x ≡ answer 0 0 x
+unfolding answerOf
+clear-all x none = refl
+clear-all x (more {rs = rs} c cs) = passed rs x c ∙ clear-all x cs
+
+pub succeeds : {fs rs : List Refusal} (x : ℕ) → AllClear fs → AllClear rs → answer 0 0 x ≡ answerOf (fs ++ rs) x
+succeeds {rs = rs} x c d = sym (goes-on rs x c ∙ clear-all x d)
+
+-- ---- code 0 says that no line applies, in a table without a code 0
+
+unfoldable pub coded : List Refusal → Bool
+coded [] = true
+coded (r ∷ rs) = ltb 0 (r .code) && coded rs
+
+and-left : (a b : Bool) → a && b ≡ true → a ≡ true
+and-left true b e = refl
+and-left false b e = e
+
+and-right : (a b : Bool) → a && b ≡ true → b ≡ true
+and-right true b e = e
+and-right false b e = absurd (true-false e refl)
+
+pub quiet : (rs : List Refusal) (x : ℕ) → coded rs ≡ true → answerOf rs x .code ≡ 0 → AllClear rs
+unfolding answerOf coded
+quiet [] x k e = none
+quiet (r ∷ rs) x k e = go (ltb (placeOf r) (r .places)) refl e (quiet rs x (and-right (ltb 0 (r .code)) (coded rs) k))
+  where
+    go : (b : Bool) → ltb (placeOf r) (r .places) ≡ b → cond b (answer (r .code) (placeOf r) 0) (answerOf rs x) .code ≡ 0 → (answerOf rs x .code ≡ 0 → AllClear rs) → AllClear (r ∷ rs)
+    go true q e s = absurd (omega (arith, ltb-true 0 (r .code) (and-left (ltb 0 (r .code)) (coded rs) k)))
+    go false q e s = more (clear-of (first-is (r .applies) (r .places)) (ltb-false (placeOf r) (r .places) q)) (s e)
+
+-- and then of each code
+pub clear : {rs : List Refusal} (c : ℕ) → AllClear rs → Clear (named c rs)
+unfolding named
+clear c none = record { nowhere = λ i h. refl }
+clear c (more {r = r} {rs = rs} k ks) = go (eqb (r .code) c) (clear c ks)
+  where
+    go : (b : Bool) → Clear (named c rs) → Clear (cond b r (named c rs))
+    go true h = k
+    go false h = h
+
+-- ---- the front of a table judged by a function: its refusal r is the whole's
+
+pub stopped : {r : Answer} (rs ss : List Refusal) (x : ℕ) → r ≡ answerOf rs 0 → (r .code ≡ 0 → ⊥) → r ≡ answerOf (rs ++ ss) x
+stopped rs ss x e n = e ∙ sym (stops rs ss x (λ z. n (ap (λ (a : Answer). a .code) e ∙ z)))

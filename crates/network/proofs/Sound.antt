@@ -1,0 +1,151 @@
+-- What a well-formed network has. Assumes nothing.
+use mathlib.Core.Path.{_≡_, refl, sym, ap, _∙_}
+use mathlib.Core.Bool.{Bool, true, false, _||_}
+use Prim.Native.Nat.{ℕ, _+_, _≤_, _<_}
+use native.Mathlib.Omega.{arith}
+use borrow.Author.Tests.{ltb-false, leb-false, eqb-true, eqb-false, not-false}
+use lib.IntN.{ℤ, pos, negsuc, natAbs, _-ℤ_}
+use lib.Signed.{ltZ, leZ, _≤ℤ_}
+use lib.ListN.{length}
+use lib.Dec.{ltb, leb, eqb}
+use Rattle.numbers.proofs.Integers.{up, dn, leℤ, ltZ-false, leZ-false, ofSub}
+use Rattle.numbers.proofs.Divisors.{gcd-pos, gcd-le}
+use Rattle.network.specs.declared.Answer.{Answer}
+use Rattle.network.specs.Network.{Network, events, arcs, period, tail, head, lower, upper, weight}
+use Rattle.network.specs.PublicRule.{arcPeriod, widthOf}
+use Rattle.network.specs.Table.{outside, differ, uneven, strays, beyond, misfits, refusals, refusalsWith, refusalOf, WellFormed}
+use Rattle.network.specs.Trial.{Even, Ends, named}
+use Rattle.network.proofs.Scans.{true-false}
+use Rattle.network.proofs.Refusing.{Clear, AllClear, coded, clear-all, quiet, clear}
+
+-- ---- what each line leaves where it does not apply
+
+pub record Inside (least greatest x : ℕ) : Type 0 where
+  pub some : least ≤ x
+  pub most : x ≤ greatest
+
+-- both sides of `||` say no
+neither : (a b : Bool) → a || b ≡ false → (a ≡ false) × (b ≡ false)
+neither true b e = absurd (true-false refl e)
+neither false b e = (refl, e)
+
+pub inside : (least greatest x : ℕ) → outside least greatest x ≡ false → Inside least greatest x
+unfolding outside
+inside least greatest x e =
+    let n = neither (ltb x least) (ltb greatest x) e in
+    record { some = ltb-false x least (n .0); most = ltb-false greatest x (n .1) }
+
+same : (a b : ℕ) → differ a b ≡ false → a ≡ b
+same a b e = eqb-true a b (not-false (eqb a b) e)
+
+-- and the further row is as long
+pub record EvenWith (N : Network) (further : ℕ) : Type 0 where
+  pub even : Even N
+  pub further-long : further ≡ arcs N
+
+pub even-of : (N : Network) (further : ℕ)
+    → uneven (arcs N) (length (N .heads)) (length (N .lowers)) (length (N .uppers)) (length (N .weights)) further ≡ false
+    → EvenWith N further
+unfolding uneven
+even-of N further e =
+    let m = arcs N in
+    let n₁ = neither (differ (length (N .heads)) m) _ e in
+    let n₂ = neither (differ (length (N .lowers)) m) _ (n₁ .1) in
+    let n₃ = neither (differ (length (N .uppers)) m) _ (n₂ .1) in
+    let n₄ = neither (differ (length (N .weights)) m) _ (n₃ .1) in
+    let n₅ = neither (differ further m) _ (n₄ .1) in
+    record {
+      even = record {
+        heads-long = same _ _ (n₁ .0);
+        lowers-long = same _ _ (n₂ .0);
+        uppers-long = same _ _ (n₃ .0);
+        weights-long = same _ _ (n₄ .0);
+        few-arcs = ltb-false 256 m (n₅ .1);
+      };
+      further-long = same _ _ (n₅ .0);
+    }
+
+pub ends-of : (N : Network) (a : ℕ) → strays (events N) (tail N a) (head N a) ≡ false → Ends N a
+unfolding strays
+ends-of N a e =
+    let n = neither (leb (events N) (tail N a)) (leb (events N) (head N a)) e in
+    record { tail-in = leb-false (events N) (tail N a) (n .0); head-in = leb-false (events N) (head N a) (n .1) }
+
+small : (low : ℤ) → beyond low ≡ false → natAbs low ≤ 7200
+unfolding beyond
+small low e =
+    let n = neither (ltZ low (negsuc 7199)) (ltZ (pos 7200) low) e in
+    go low (ltZ-false low (negsuc 7199) (n .0)) (ltZ-false (pos 7200) low (n .1))
+  where
+    go : (z : ℤ) → 0 + dn z ≤ up z + 7200 → up z + 0 ≤ 7200 + dn z → natAbs z ≤ 7200
+    go (pos n) h k = omega arith
+    go (negsuc n) h k = omega arith
+
+-- upper is not below lower, and above it by less than the arc period
+pub record Narrow (N : Network) (a : ℕ) : Type 0 where
+  pub ordered : lower N a ≤ℤ upper N a
+  pub width : widthOf N a < arcPeriod N a
+
+narrow : (N : Network) (a : ℕ) → misfits (lower N a) (upper N a) (arcPeriod N a) ≡ false → Narrow N a
+unfolding misfits widthOf
+narrow N a e =
+    let d = upper N a -ℤ lower N a in
+    let n = neither (ltZ (upper N a) (lower N a)) (leZ (pos (arcPeriod N a)) d) e in
+    let o = ltZ-false (upper N a) (lower N a) (n .0) in
+    record {
+      ordered = leℤ (lower N a) (upper N a) (omega arith);
+      width = go d (omega (arith, ofSub (upper N a) (lower N a))) (leZ-false (pos (arcPeriod N a)) d (n .1));
+    }
+  where
+    go : (z : ℤ) → dn z ≤ up z → up z + 0 < arcPeriod N a + dn z → natAbs z < arcPeriod N a
+    go (pos n) h k = omega arith
+    go (negsuc n) h k = absurd (omega arith)
+
+-- ---- the whole
+
+pub record Sound (N : Network) : Type 0 where
+  pub event-count : Inside 1 64 (events N)
+  pub periods : (v : ℕ) → v < events N → Inside 1 3600 (period N v)
+  pub even : Even N
+  pub ends : (a : ℕ) → a < arcs N → Ends N a
+  pub no-loop : (a : ℕ) → a < arcs N → tail N a ≡ head N a → ⊥
+  pub lower-small : (a : ℕ) → a < arcs N → natAbs (lower N a) ≤ 7200
+  pub narrow : (a : ℕ) → a < arcs N → Narrow N a
+  pub weights : (a : ℕ) → a < arcs N → Inside 0 10000 (weight N a)
+
+-- no line applies anywhere, and so not that of a code
+pub all-clear : (N : Network) → WellFormed N → AllClear (refusals N)
+unfolding coded refusalsWith
+all-clear N w = quiet (refusals N) 0 refl (w .none)
+
+pub well-formed : (N : Network) → AllClear (refusals N) → WellFormed N
+well-formed N c = record { none = ap (λ (a : Answer). a .code) (clear-all 0 c) }
+
+-- as a call learns it
+pub well-of : {N : Network} {r : Answer} → r ≡ refusalOf N (arcs N) → r .code ≡ 0 → WellFormed N
+well-of e z = record { none = sym (ap (λ (a : Answer). a .code) e) ∙ z }
+
+pub sound : (N : Network) → WellFormed N → Sound N
+unfolding named refusalsWith
+sound N w =
+    let at : (c : ℕ) → Clear (named c (refusals N)) = λ c. clear c (all-clear N w) in
+    record {
+      event-count = inside 1 64 (events N) (at 1 .nowhere 0 (omega arith));
+      periods = λ v h. inside 1 3600 (period N v) (at 2 .nowhere v h);
+      even = even-of N (arcs N) (at 3 .nowhere 0 (omega arith)) .even;
+      ends = λ a h. ends-of N a (at 4 .nowhere a h);
+      no-loop = λ a h. eqb-false (tail N a) (head N a) (at 5 .nowhere a h);
+      lower-small = λ a h. small (lower N a) (at 6 .nowhere a h);
+      narrow = λ a h. narrow N a (at 7 .nowhere a h);
+      weights = λ a h. inside 0 10000 (weight N a) (at 8 .nowhere a h);
+    }
+
+-- the arc period of a well-formed network
+pub arc-period : (N : Network) (a : ℕ) → Sound N → a < arcs N → Inside 1 3600 (arcPeriod N a)
+unfolding arcPeriod
+arc-period N a s h =
+    let p = s .periods (tail N a) (s .ends a h .tail-in) in
+    record {
+      some = gcd-pos (period N (tail N a)) (period N (head N a)) (p .some);
+      most = omega (arith, gcd-le (period N (tail N a)) (period N (head N a)) (p .some));
+    }

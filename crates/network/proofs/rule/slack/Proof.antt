@@ -1,0 +1,41 @@
+-- `network::rule::slack` meets its contract: the slack of the times at the arc's ends. Assumes nothing.
+use mathlib.Core.Path.{_∙_}
+use native.Mathlib.Omega.{arith}
+use Rattle.network.specs.PublicRule.{slackBy, slack}
+use Rattle.network.proofs.Arcs.{kept, asks-period, tail-end, head-end, in-lowers, period-of}
+use Rattle.network.proofs.rule.slack.Statement.{statement}
+use Rattle.network.proofs.rule.slack.Tie as tie
+
+abbrev start : tie.After-shared-slice-known5 → tie.Start
+start c = c .before .before .before .before .before
+
+arc-period-requires : tie.Need-arc-period-requires
+arc-period-requires c κs = asks-period (start c .pre)
+
+time-at-requires : tie.Need-time-at-requires
+time-at-requires c κs = tail-end (start (c .before) .pre)
+
+time-at-requires-2 : tie.Need-time-at-requires-2
+time-at-requires-2 c κs = head-end (start (c .before .before) .pre)
+
+bound-requires : tie.Need-bound-requires
+bound-requires c κs = in-lowers (start (c .before .before .before) .pre)
+
+slack-by-requires : tie.Need-slack-by-requires
+slack-by-requires c κs =
+    let g = c .before .before .before in
+    omega (arith, g .arc-period .ensures, period-of (start (g .before) .pre) .some)
+
+returns : tie.Need-returns
+unfolding slack
+returns c =
+    let l = c .before in
+    let to = l .before in
+    let from = to .before in
+    let g = from .before in
+    c .slack-by .ensures
+    ∙ (λ j. slackBy (g .arc-period .ensures j) ((kept (l .bound .ok) ∙ l .bound .ensures) j) (from .time-at .ensures j) (to .time-at2 .ensures j))
+
+pub slack-spec : {M : Type 1} → statement M
+slack-spec =
+    tie.close (tie.spec arc-period-requires time-at-requires time-at-requires-2 bound-requires slack-by-requires returns)

@@ -1,0 +1,35 @@
+-- What inner functions ask of a well-formed network with a row of times, and what they say. Definitions alone.
+use mathlib.Core.Path.{_≡_}
+use mathlib.Core.List.{List}
+use Prim.Native.Nat.{ℕ, _≤_, _<_}
+use lib.IntN.{ℤ}
+use lib.ListN.{length}
+use Rattle.network.specs.Network.{Network, at, events, arcs}
+use Rattle.network.specs.PublicRule.{tension, costOf}
+use Rattle.network.specs.Table.{WellFormed}
+use Rattle.network.specs.Rows.{written}
+
+-- a time for each event
+pub record Timed (N : Network) (t : List ℕ) : Type 0 where
+  pub well : WellFormed N
+  pub long : length t ≡ events N
+
+-- and one of the arcs
+pub record TimedArc (N : Network) (t : List ℕ) (a : ℕ) : Type 0 where
+  pub timed : Timed N t
+  pub arc : a < arcs N
+
+-- an end of an arc: entry a of a row of ends is an event that has a time
+pub record TimedEnd (ends t : List ℕ) (a : ℕ) : Type 0 where
+  pub arc : a < length ends
+  pub event : at ends a < length t
+
+-- a row with an entry for each arc
+pub record Room (N : Network) (t : List ℕ) (row : List ℤ) : Type 0 where
+  pub timed : Timed N t
+  pub room : arcs N ≤ length row
+
+-- each arc's tension is written, and the cost is known
+pub record Noted (N : Network) (t : List ℕ) (was is : List ℤ) (sum : ℕ) : Type 0 where
+  pub row : is ≡ written (tension N t) (arcs N) was
+  pub cost : sum ≡ costOf N t

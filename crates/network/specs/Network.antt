@@ -1,0 +1,55 @@
+-- A network: six rows. Events and arcs are numbered from 0. Definitions alone.
+use mathlib.Core.List.{List}
+use Prim.Native.Nat.{ℕ}
+use lib.IntN.{ℤ, pos}
+use lib.ListN.{length, getD}
+use denote.Ref.{RefT, now}
+
+pub record Network : Type 0 where
+  pub periods : List ℕ
+  pub tails : List ℕ
+  pub heads : List ℕ
+  pub lowers : List ℤ
+  pub uppers : List ℤ
+  pub weights : List ℕ
+
+-- the network of six rows, and of six lent rows
+abbrev pub net : List ℕ → List ℕ → List ℕ → List ℤ → List ℤ → List ℕ → Network
+net p t h l u w = record { periods = p; tails = t; heads = h; lowers = l; uppers = u; weights = w }
+
+abbrev pub netOf : RefT (List ℕ) → RefT (List ℕ) → RefT (List ℕ) → RefT (List ℤ) → RefT (List ℤ) → RefT (List ℕ) → Network
+netOf p t h l u w = net (now p) (now t) (now h) (now l) (now u) (now w)
+
+-- entry i of a row of unsigned and of signed numbers
+abbrev pub at : List ℕ → ℕ → ℕ
+at row i = getD row i 0
+
+abbrev pub atℤ : List ℤ → ℕ → ℤ
+atℤ row i = getD row i (pos 0)
+
+-- n, the number of events, and m, the number of arcs
+abbrev pub events : Network → ℕ
+events N = length (N .periods)
+
+abbrev pub arcs : Network → ℕ
+arcs N = length (N .tails)
+
+-- of event v
+abbrev pub period : Network → ℕ → ℕ
+period N v = at (N .periods) v
+
+-- of arc a
+abbrev pub tail : Network → ℕ → ℕ
+tail N a = at (N .tails) a
+
+abbrev pub head : Network → ℕ → ℕ
+head N a = at (N .heads) a
+
+abbrev pub lower : Network → ℕ → ℤ
+lower N a = atℤ (N .lowers) a
+
+abbrev pub upper : Network → ℕ → ℤ
+upper N a = atℤ (N .uppers) a
+
+abbrev pub weight : Network → ℕ → ℕ
+weight N a = at (N .weights) a

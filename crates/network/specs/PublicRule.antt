@@ -1,0 +1,71 @@
+-- The public rule: arc period, slack, tension, met, timetable, feasible, cost, smaller. Definitions alone.
+use mathlib.Core.Path.{_≡_}
+use mathlib.Core.List.{List}
+use mathlib.Core.Bool.{Bool, true}
+use Prim.Native.Nat.{ℕ, zero, suc, _+_, _*_, _<_}
+use lib.IntN.{ℤ, pos, natAbs, _+ℤ_, _-ℤ_}
+use lib.Signed.{leZ}
+use lib.ListN.{length}
+use lib.Dec.{ltb}
+use Rattle.numbers.specs.Divisor.{gcd}
+use Rattle.numbers.specs.Remainder.{remainder}
+use Rattle.network.specs.Network.{Network, at, events, arcs, period, tail, head, lower, upper, weight}
+
+-- arc period g: the greatest common divisor of the periods at the two ends of arc a
+unfoldable pub arcPeriod : Network → ℕ → ℕ
+arcPeriod N a = gcd (period N (tail N a)) (period N (head N a))
+
+-- slack: the remainder by g of (head time less tail time less lower)
+abbrev pub slackBy : ℕ → ℤ → ℕ → ℕ → ℕ
+slackBy g low from to = remainder ((pos to -ℤ pos from) -ℤ low) g
+
+unfoldable pub slack : Network → List ℕ → ℕ → ℕ
+slack N t a = slackBy (arcPeriod N a) (lower N a) (at t (tail N a)) (at t (head N a))
+
+-- tension: lower plus slack
+unfoldable pub tension : Network → List ℕ → ℕ → ℤ
+tension N t a = lower N a +ℤ pos (slack N t a)
+
+-- met: the tension is at most the upper bound
+unfoldable pub met : Network → List ℕ → ℕ → Bool
+met N t a = leZ (tension N t a) (upper N a)
+
+-- the slack up to which arc a is met: upper less lower
+unfoldable pub widthOf : Network → ℕ → ℕ
+widthOf N a = natAbs (upper N a -ℤ lower N a)
+
+-- a time that event v may take: from 0 to its period less 1
+unfoldable pub allowed : Network → ℕ → ℕ → Bool
+allowed N v x = ltb x (period N v)
+
+-- a timetable gives each event such a time
+pub record Timetable (N : Network) (t : List ℕ) : Type 0 where
+  pub long : length t ≡ events N
+  pub inside : (v : ℕ) → v < events N → allowed N v (at t v) ≡ true
+
+-- it is feasible if every arc is met
+pub record Feasible (N : Network) (t : List ℕ) : Type 0 where
+  pub timetable : Timetable N t
+  pub each-met : (a : ℕ) → a < arcs N → met N t a ≡ true
+
+-- cost: the sum of weight times slack over all arcs
+unfoldable pub arcCost : Network → List ℕ → ℕ → ℕ
+arcCost N t a = weight N a * slack N t a
+
+unfoldable pub costTo : Network → List ℕ → ℕ → ℕ
+costTo N t zero = 0
+costTo N t (suc m) = costTo N t m + arcCost N t m
+
+abbrev pub costOf : Network → List ℕ → ℕ
+costOf N t = costTo N t (arcs N)
+
+-- the smaller is the one with the smaller time at the lowest event where they differ
+pub record Smaller (t u : List ℕ) : Type 0 where
+  pub event : ℕ
+  pub same : (v : ℕ) → v < event → at t v ≡ at u v
+  pub less : at t event < at u event
+
+-- the smallest feasible timetable
+pub record Smallest (N : Network) (t : List ℕ) : Type 0 where
+  pub feasible : Feasible N t
+  pub least : (u : List ℕ) → Feasible N u → Smaller u t → ⊥

@@ -1,0 +1,36 @@
+-- A table of refusals, and the answer that follows from it: code, order and place. Definitions alone.
+use mathlib.Core.List.{List, [], _∷_}
+use mathlib.Core.Bool.{Bool, cond}
+use Prim.Native.Nat.{ℕ}
+use lib.Dec.{ltb, eqb}
+use Rattle.network.specs.declared.Answer.{Answer}
+use Rattle.network.specs.First.{first}
+
+abbrev pub answer : ℕ → ℕ → ℕ → Answer
+answer c p x = record { code = c; place = p; cost = x }
+
+-- a line of the table: its code, how many places it is tried at, and whether it applies at a place
+pub record Refusal : Type 0 where
+  pub code : ℕ
+  pub places : ℕ
+  pub applies : ℕ → Bool
+
+-- tried once, at place 0; tried at each of n places
+abbrev pub once : ℕ → Bool → Refusal
+once c b = record { code = c; places = 1; applies = λ i. b }
+
+abbrev pub each : ℕ → ℕ → (ℕ → Bool) → Refusal
+each c n test = record { code = c; places = n; applies = test }
+
+-- the first place at which a line applies
+abbrev pub placeOf : Refusal → ℕ
+placeOf r = first (r .applies) (r .places)
+
+-- the first line that applies, at its first place and with cost 0; where none does, success with this cost
+unfoldable pub answerOf : List Refusal → ℕ → Answer
+answerOf [] cost = answer 0 0 cost
+answerOf (r ∷ rs) cost = cond (ltb (placeOf r) (r .places)) (answer (r .code) (placeOf r) 0) (answerOf rs cost)
+
+-- a row after a call: written under code 0, as it was under any other
+unfoldable pub after : {A : Type 0} → Answer → List A → List A → List A
+after r new was = cond (eqb (r .code) 0) new was

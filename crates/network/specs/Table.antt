@@ -1,0 +1,62 @@
+-- The refusals of a network: the paper's table, codes 1 to 8, in its order. Definitions alone.
+use mathlib.Core.Path.{_≡_}
+use mathlib.Core.List.{List, [], _∷_}
+use mathlib.Core.Bool.{Bool, not, _||_}
+use Prim.Native.Nat.{ℕ}
+use lib.IntN.{ℤ, pos, negsuc, _-ℤ_}
+use lib.Signed.{ltZ, leZ}
+use lib.ListN.{length}
+use lib.Dec.{ltb, leb, eqb}
+use Rattle.network.specs.declared.Answer.{Answer}
+use Rattle.network.specs.Network.{Network, events, arcs, period, tail, head, lower, upper, weight}
+use Rattle.network.specs.PublicRule.{arcPeriod}
+use Rattle.network.specs.Refusals.{Refusal, once, each, answerOf}
+
+-- below the least or above the greatest
+unfoldable pub outside : ℕ → ℕ → ℕ → Bool
+outside least greatest x = ltb x least || ltb greatest x
+
+abbrev pub differ : ℕ → ℕ → Bool
+differ a b = not (eqb a b)
+
+-- a row's length differs from m, or m is above 256; `further` is the length of a row that counts as an arc row
+unfoldable pub uneven : ℕ → ℕ → ℕ → ℕ → ℕ → ℕ → Bool
+uneven m heads lowers uppers weights further =
+    differ heads m || (differ lowers m || (differ uppers m || (differ weights m || (differ further m || ltb 256 m))))
+
+-- an end is n or more
+unfoldable pub strays : ℕ → ℕ → ℕ → Bool
+strays n from to = leb n from || leb n to
+
+-- lower is below -7,200 or above 7,200
+unfoldable pub beyond : ℤ → Bool
+beyond low = ltZ low (negsuc 7199) || ltZ (pos 7200) low
+
+-- upper is below lower, or upper less lower is at least g
+unfoldable pub misfits : ℤ → ℤ → ℕ → Bool
+misfits low high g = ltZ high low || leZ (pos g) (high -ℤ low)
+
+-- the table, where a row of length `further` counts as an arc row
+unfoldable pub refusalsWith : Network → ℕ → List Refusal
+refusalsWith N further =
+    once 1 (outside 1 64 (events N))
+    ∷ each 2 (events N) (λ v. outside 1 3600 (period N v))
+    ∷ once 3 (uneven (arcs N) (length (N .heads)) (length (N .lowers)) (length (N .uppers)) (length (N .weights)) further)
+    ∷ each 4 (arcs N) (λ a. strays (events N) (tail N a) (head N a))
+    ∷ each 5 (arcs N) (λ a. eqb (tail N a) (head N a))
+    ∷ each 6 (arcs N) (λ a. beyond (lower N a))
+    ∷ each 7 (arcs N) (λ a. misfits (lower N a) (upper N a) (arcPeriod N a))
+    ∷ each 8 (arcs N) (λ a. outside 0 10000 (weight N a))
+    ∷ []
+
+-- the table where no further row counts
+abbrev pub refusals : Network → List Refusal
+refusals N = refusalsWith N (arcs N)
+
+-- the first refusal; code 0 where there is none
+abbrev pub refusalOf : Network → ℕ → Answer
+refusalOf N further = answerOf (refusalsWith N further) 0
+
+-- a network is well-formed if none of the codes applies
+pub record WellFormed (N : Network) : Type 0 where
+  pub none : refusalOf N (arcs N) .code ≡ 0

@@ -1,0 +1,26 @@
+// A network lent as six rows: the public rule at one arc and over all, and the first refusal of the table.
+ghost use mathlib.Core.Path.{_≡_};
+ghost use Prim.Native.Nat.{_<_};
+ghost use Rattle.network.specs.Refusals.{answer};
+
+pub mod rule;
+pub mod table;
+
+#[repr(C)]
+pub struct Answer {
+    pub code: u32,
+    pub place: u32,
+    pub cost: u64,
+}
+
+// An answer that refuses, at a place.
+pub fn refused(code: u32, place: usize) -> Answer
+    requires { ⌜ place < 256 ⌝ }
+    ensures { λ r. ⌜ r ≡ answer code place 0 ⌝ }
+{
+    Answer {
+        code,
+        place: place as u32,
+        cost: 0,
+    }
+}

@@ -1,0 +1,223 @@
+// The public rule at one arc, and the scans over all events and arcs.
+ghost use mathlib.Core.Path.{_≡_};
+ghost use Prim.Native.Nat.{_*_, _≤_, _<_};
+ghost use lib.IntN.{pos, natAbs, _+ℤ_};
+ghost use lib.ListN.{length};
+ghost use Rattle.network.specs.Network.{netOf, at, atℤ};
+ghost use Rattle.network.specs.PublicRule.{arcPeriod, slackBy, slack as slackOf, tension as tensionOf, met as metOf, costOf};
+ghost use Rattle.network.specs.First.{First};
+ghost use Rattle.network.specs.Rows.{late, unmet};
+ghost use Rattle.network.specs.Trial.{AsksPeriod};
+ghost use Rattle.network.specs.Inner.{Timed, TimedArc, TimedEnd, Room, Noted};
+
+// Entry i of a row, as a number of this machine's size.
+pub fn entry(row: &[u32], i: usize) -> usize
+    requires { ⌜ i < length (now row) ⌝ }
+    ensures { λ r. ⌜ r ≡ at (now (row .entry)) i ⌝ }
+{
+    row[i] as usize
+}
+
+// Entry i of a row of bounds.
+pub fn bound(row: &[i32], i: usize) -> i32
+    requires { ⌜ i < length (now row) ⌝ }
+    ensures { λ r. ⌜ r ≡ atℤ (now (row .entry)) i ⌝ }
+{
+    row[i]
+}
+
+// The greatest common divisor of the periods at the two ends of an arc.
+pub fn arc_period(
+    periods: &[u32],
+    tail: &[u32],
+    head: &[u32],
+    lower: &[i32],
+    upper: &[i32],
+    weight: &[u32],
+    arc: usize,
+) -> u32
+    requires { ⌜ AsksPeriod (netOf periods tail head lower upper weight) arc ⌝ }
+    ensures { λ r. ⌜ r ≡ arcPeriod (netOf (periods .entry) (tail .entry) (head .entry) (lower .entry) (upper .entry) (weight .entry)) arc ⌝ }
+{
+    let from = entry(tail, arc);
+    let to = entry(head, arc);
+    numbers::gcd(periods[from], periods[to])
+}
+
+// The remainder by g of head time less tail time less lower.
+pub fn slack_by(g: u32, low: i32, from: u32, to: u32) -> u32
+    requires { ⌜ 0 < g ⌝ }
+    ensures { λ r. ⌜ r ≡ slackBy g low from to ⌝ }
+{
+    numbers::remainder(numbers::difference(to, from) - (low as i64), g)
+}
+
+// The time at an end of an arc.
+fn time_at(ends: &[u32], times: &[u32], arc: usize) -> u32
+    requires { ⌜ TimedEnd (now ends) (now times) arc ⌝ }
+    ensures { λ r. ⌜ r ≡ at (now (times .entry)) (at (now (ends .entry)) arc) ⌝ }
+{
+    let event = entry(ends, arc);
+    times[event]
+}
+
+// The slack of an arc.
+fn slack(
+    periods: &[u32],
+    tail: &[u32],
+    head: &[u32],
+    lower: &[i32],
+    upper: &[i32],
+    weight: &[u32],
+    times: &[u32],
+    arc: usize,
+) -> u32
+    requires { ⌜ TimedArc (netOf periods tail head lower upper weight) (now times) arc ⌝ }
+    ensures { λ r. ⌜ r ≡ slackOf (netOf (periods .entry) (tail .entry) (head .entry) (lower .entry) (upper .entry) (weight .entry)) (now (times .entry)) arc ⌝ }
+{
+    let g = arc_period(periods, tail, head, lower, upper, weight, arc);
+    let from = time_at(tail, times, arc);
+    let to = time_at(head, times, arc);
+    slack_by(g, bound(lower, arc), from, to)
+}
+
+// Lower plus slack.
+fn raised(low: i32, s: u32) -> i32
+    requires { ⌜ (natAbs low ≤ 7200) × (s < 3600) ⌝ }
+    ensures { λ r. ⌜ r ≡ low +ℤ pos s ⌝ }
+{
+    low + (s as i32)
+}
+
+// Weight times slack.
+fn arc_cost(weight: u32, s: u32) -> u64
+    requires { ⌜ (weight ≤ 10000) × (s < 3600) ⌝ }
+    ensures { λ r. ⌜ r ≡ weight * s ⌝ }
+{
+    (weight as u64) * (s as u64)
+}
+
+// The tension of an arc.
+fn tension(
+    periods: &[u32],
+    tail: &[u32],
+    head: &[u32],
+    lower: &[i32],
+    upper: &[i32],
+    weight: &[u32],
+    times: &[u32],
+    arc: usize,
+) -> i32
+    requires { ⌜ TimedArc (netOf periods tail head lower upper weight) (now times) arc ⌝ }
+    ensures { λ r. ⌜ r ≡ tensionOf (netOf (periods .entry) (tail .entry) (head .entry) (lower .entry) (upper .entry) (weight .entry)) (now (times .entry)) arc ⌝ }
+{
+    let s = slack(periods, tail, head, lower, upper, weight, times, arc);
+    raised(bound(lower, arc), s)
+}
+
+// Is an arc met?
+fn met(
+    periods: &[u32],
+    tail: &[u32],
+    head: &[u32],
+    lower: &[i32],
+    upper: &[i32],
+    weight: &[u32],
+    times: &[u32],
+    arc: usize,
+) -> bool
+    requires { ⌜ TimedArc (netOf periods tail head lower upper weight) (now times) arc ⌝ }
+    ensures { λ r. ⌜ r ≡ metOf (netOf (periods .entry) (tail .entry) (head .entry) (lower .entry) (upper .entry) (weight .entry)) (now (times .entry)) arc ⌝ }
+{
+    tension(periods, tail, head, lower, upper, weight, times, arc) <= bound(upper, arc)
+}
+
+// The first event whose time is not below its period, or the number of events.
+pub fn first_late(periods: &[u32], times: &[u32]) -> usize
+    requires { ⌜ length (now times) ≡ length (now periods) ⌝ }
+    ensures { λ r. ⌜ First (late (now (periods .entry)) (now (times .entry))) (length (now (periods .entry))) r ⌝ }
+{
+    let mut event = 0;
+    while event < periods.len() {
+        if periods[event] <= times[event] {
+            break;
+        }
+        event += 1;
+    }
+    event
+}
+
+// The first arc in order that is not met, or the number of arcs.
+pub fn first_unmet(
+    periods: &[u32],
+    tail: &[u32],
+    head: &[u32],
+    lower: &[i32],
+    upper: &[i32],
+    weight: &[u32],
+    times: &[u32],
+) -> usize
+    requires { ⌜ Timed (netOf periods tail head lower upper weight) (now times) ⌝ }
+    ensures { λ r. ⌜ First (unmet (netOf (periods .entry) (tail .entry) (head .entry) (lower .entry) (upper .entry) (weight .entry)) (now (times .entry))) (length (now (tail .entry))) r ⌝ }
+{
+    let mut arc = 0;
+    let place = loop {
+        if arc == tail.len() {
+            break arc;
+        }
+        if !met(periods, tail, head, lower, upper, weight, times, arc) {
+            break arc;
+        }
+        arc += 1;
+    };
+    place
+}
+
+// The sum of weight times slack over all arcs.
+pub fn cost(
+    periods: &[u32],
+    tail: &[u32],
+    head: &[u32],
+    lower: &[i32],
+    upper: &[i32],
+    weight: &[u32],
+    times: &[u32],
+) -> u64
+    requires { ⌜ Timed (netOf periods tail head lower upper weight) (now times) ⌝ }
+    ensures { λ r. ⌜ r ≡ costOf (netOf (periods .entry) (tail .entry) (head .entry) (lower .entry) (upper .entry) (weight .entry)) (now (times .entry)) ⌝ }
+{
+    let mut sum: u64 = 0;
+    let mut arc = 0;
+    while arc < tail.len() {
+        let s = slack(periods, tail, head, lower, upper, weight, times, arc);
+        sum += arc_cost(weight[arc], s);
+        arc += 1;
+    }
+    sum
+}
+
+// Writes each arc's tension, and returns the cost: the slack of an arc is worked out once for both.
+pub fn note_tensions(
+    periods: &[u32],
+    tail: &[u32],
+    head: &[u32],
+    lower: &[i32],
+    upper: &[i32],
+    weight: &[u32],
+    times: &[u32],
+    tensions: &mut [i32],
+) -> u64
+    requires { ⌜ Room (netOf periods tail head lower upper weight) (now times) (now tensions) ⌝ }
+    ensures { λ r. ⌜ Noted (netOf (periods .entry) (tail .entry) (head .entry) (lower .entry) (upper .entry) (weight .entry)) (now (times .entry)) (now (tensions .entry)) (now (tensions .exit)) r ⌝ }
+{
+    let mut sum: u64 = 0;
+    let mut arc = 0;
+    while arc < tail.len() {
+        let s = slack(periods, tail, head, lower, upper, weight, times, arc);
+        let t = raised(bound(lower, arc), s);
+        tensions[arc] = t;
+        sum += arc_cost(weight[arc], s);
+        arc += 1;
+    }
+    sum
+}

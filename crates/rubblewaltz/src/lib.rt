@@ -1,0 +1,36 @@
+// The public calls, exported to C: each passes its rows on, and carries the contract of the call behind it.
+ghost use Rattle.network.specs.Network.{netOf};
+ghost use Rattle.timetable.specs.Check.{Checked};
+ghost use Rattle.timetable.specs.Measure.{Measured};
+use network::Answer;
+
+#[no_mangle]
+pub extern "C" fn rubblewaltz_check(
+    periods: &[u32],
+    tail: &[u32],
+    head: &[u32],
+    lower: &[i32],
+    upper: &[i32],
+    weight: &[u32],
+    times: &[u32],
+) -> Answer
+    ensures { λ r. ⌜ Checked (netOf (periods .entry) (tail .entry) (head .entry) (lower .entry) (upper .entry) (weight .entry)) (now (times .entry)) r ⌝ }
+{
+    timetable::check::check(periods, tail, head, lower, upper, weight, times)
+}
+
+#[no_mangle]
+pub extern "C" fn rubblewaltz_measure(
+    periods: &[u32],
+    tail: &[u32],
+    head: &[u32],
+    lower: &[i32],
+    upper: &[i32],
+    weight: &[u32],
+    times: &[u32],
+    tensions: &mut [i32],
+) -> Answer
+    ensures { λ r. ⌜ Measured (netOf (periods .entry) (tail .entry) (head .entry) (lower .entry) (upper .entry) (weight .entry)) (now (times .entry)) (now (tensions .entry)) (now (tensions .exit)) r ⌝ }
+{
+    timetable::measure::measure(periods, tail, head, lower, upper, weight, times, tensions)
+}

@@ -1,0 +1,3 @@
+-- What each public call promises.
+pub mod Check
+pub mod Measure

@@ -1,0 +1,3 @@
+// The public calls, a module for each. None asks anything of its caller.
+pub mod check;
+pub mod measure;

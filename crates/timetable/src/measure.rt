@@ -1,0 +1,48 @@
+// Measure: the tensions and the cost of a given timetable.
+ghost use Rattle.network.specs.Network.{netOf};
+ghost use Rattle.timetable.specs.Measure.{Measured};
+use network::Answer;
+
+// The tensions and the cost of this timetable, whether or not its arcs are met.
+pub fn measure(
+    periods: &[u32],
+    tail: &[u32],
+    head: &[u32],
+    lower: &[i32],
+    upper: &[i32],
+    weight: &[u32],
+    times: &[u32],
+    tensions: &mut [i32],
+) -> Answer
+    ensures { λ r. ⌜ Measured (netOf (periods .entry) (tail .entry) (head .entry) (lower .entry) (upper .entry) (weight .entry)) (now (times .entry)) (now (tensions .entry)) (now (tensions .exit)) r ⌝ }
+{
+    let found = network::table::refusal(periods, tail, head, lower, upper, weight, tail.len());
+    if found.code != 0 {
+        return found;
+    }
+    if times.len() != periods.len() {
+        return network::refused(9, 0);
+    }
+    if tensions.len() < tail.len() {
+        return network::refused(9, 0);
+    }
+    let event = network::rule::first_late(periods, times);
+    if event < periods.len() {
+        return network::refused(14, event);
+    }
+    let cost = network::rule::note_tensions(
+        periods,
+        tail,
+        head,
+        lower,
+        upper,
+        weight,
+        times,
+        tensions,
+    );
+    Answer {
+        code: 0,
+        place: 0,
+        cost,
+    }
+}
