@@ -1,8 +1,9 @@
 -- The laws of one arc of a well-formed network, of the cost and of a row that is written in order. Assumes nothing.
 use mathlib.Core.Path.{_≡_, refl, sym, ap, _∙_}
+use mathlib.Core.Logic.{_⊎_, inl, inr}
 use mathlib.Core.List.{List}
 use Prim.Native.Nat.{ℕ, zero, suc, _+_, _*_, _≤_, _<_}
-use native.Mathlib.Nat.{mul-le-mul}
+use native.Mathlib.Nat.{mul-le-mul, eq-or-lt-of-le}
 use native.Mathlib.Numerals.{add-one}
 use native.Mathlib.Omega.{arith}
 use lib.IntN.{ℤ, pos, natAbs, _+ℤ_, _-ℤ_}
@@ -10,41 +11,41 @@ use lib.Signed.{mag}
 use mir.Syntax.{w32}
 use mir.Val.{toZ, ofZ}
 use lib.ListN.{length, set, length-set}
+use lib.Seq.{getD-set-same, getD-set-other}
 use Rattle.numbers.proofs.Bits.{of}
 use Rattle.numbers.proofs.Remainders.{remainder-below}
-use Rattle.network.specs.Network.{Network, at, tail, head, lower, weight}
-use Rattle.network.specs.PublicRule.{arcPeriod, slack, tension, arcCost, costTo}
+use Rattle.network.specs.Network.{Network, arcs, tail, head, lower, upper, weight}
+use Rattle.numbers.specs.Row.{at}
+use Rattle.network.specs.PublicRule.{arcPeriod, slack, tension, widthOf, arcCost, costTo}
+use Rattle.network.specs.Table.{WellFormed}
 use Rattle.network.specs.Rows.{written}
 use Rattle.network.specs.Trial.{AsksPeriod}
-use Rattle.network.specs.Inner.{TimedArc, TimedEnd}
+use Rattle.network.specs.Inner.{Span, TimedArc, TimedEnd}
 use Rattle.network.proofs.Sound.{Inside, Sound, sound, arc-period}
 
 -- a signed result of a call is passed on as it is
 pub kept : {z : ℤ} → mag z < 2147483648 → toZ w32 (ofZ w32 z) ≡ z
 kept {z} h = of {z = z} (record { sfits = h }) .is
 
--- weight times slack
+-- weight times slack is small
 pub product-small : {w s : ℕ} → w ≤ 10000 → s < 3600 → w * s ≤ 36000000
 product-small h k = mul-le-mul {m₂ = 3600} h (omega arith)
 
-module _ {N : Network} {t : List ℕ} {a : ℕ} (c : TimedArc N t a) where
+-- ---- an arc of a well-formed network
+
+pub record ArcOf (N : Network) (a : ℕ) : Type 0 where
+  pub well : WellFormed N
+  pub arc : a < arcs N
+
+module _ {N : Network} {a : ℕ} (c : ArcOf N a) where
   has : Sound N
-  has = sound N (c .timed .well)
+  has = sound N (c .well)
 
   pub arc-small : a < 256
   arc-small = omega (arith, c .arc, has .even .few-arcs)
 
   pub asks-period : AsksPeriod N a
   asks-period = record { arc = c .arc; heads-long = has .even .heads-long; ends = has .ends a (c .arc) }
-
-  pub tail-end : TimedEnd (N .tails) t a
-  tail-end = record { arc = c .arc; event = omega (arith, c .timed .long, has .ends a (c .arc) .tail-in) }
-
-  pub head-end : TimedEnd (N .heads) t a
-  head-end = record {
-    arc = omega (arith, c .arc, has .even .heads-long);
-    event = omega (arith, c .timed .long, has .ends a (c .arc) .head-in);
-  }
 
   pub in-lowers : a < length (N .lowers)
   in-lowers = omega (arith, c .arc, has .even .lowers-long)
@@ -58,28 +59,45 @@ module _ {N : Network} {t : List ℕ} {a : ℕ} (c : TimedArc N t a) where
   pub period-of : Inside 1 3600 (arcPeriod N a)
   period-of = arc-period N a has (c .arc)
 
-  pub lower-of : natAbs (lower N a) ≤ 7200
-  lower-of = has .lower-small a (c .arc)
-
   pub weight-of : weight N a ≤ 10000
   weight-of = has .weights a (c .arc) .most
 
-  pub slack-small : slack N t a < 3600
-  unfolding slack
-  slack-small =
-      omega (arith, period-of, remainder-below ((pos (at t (head N a)) -ℤ pos (at t (tail N a))) -ℤ lower N a) (arcPeriod N a) (period-of .some))
-
   -- lower, as a call handed it on
   pub lower-kept : {z : ℤ} → z ≡ lower N a → natAbs z ≤ 7200
-  lower-kept e = rw e lower-of
+  lower-kept e = rw e (has .lower-small a (c .arc))
+
+  pub span : {low high : ℤ} → low ≡ lower N a → high ≡ upper N a → Span low high
+  unfolding widthOf
+  span e f = rw (e, f) (record { ordered = has .narrow a (c .arc) .ordered; small = omega (arith, has .narrow a (c .arc) .width, period-of .most) })
+
+-- ---- and with times at its ends
+
+pub arc-of : {N : Network} {t : List ℕ} {a : ℕ} → TimedArc N t a → ArcOf N a
+arc-of c = record { well = c .timed .well; arc = c .arc }
+
+module _ {N : Network} {t : List ℕ} {a : ℕ} (c : TimedArc N t a) where
+  pub tail-end : TimedEnd (N .tails) t a
+  tail-end = record { arc = c .arc; event = omega (arith, c .timed .long, asks-period (arc-of c) .ends .tail-in) }
+
+  pub head-end : TimedEnd (N .heads) t a
+  head-end = record {
+    arc = omega (arith, c .arc, asks-period (arc-of c) .heads-long);
+    event = omega (arith, c .timed .long, asks-period (arc-of c) .ends .head-in);
+  }
+
+  slack-small : slack N t a < 3600
+  unfolding slack
+  slack-small =
+      let g = period-of (arc-of c) in
+      omega (arith, g, remainder-below ((pos (at t (head N a)) -ℤ pos (at t (tail N a))) -ℤ lower N a) (arcPeriod N a) (g .some))
 
   pub slack-kept : {s : ℕ} → s ≡ slack N t a → s < 3600
   slack-kept e = rw e slack-small
 
   -- what one arc costs
-  pub cost-small : arcCost N t a ≤ 36000000
+  cost-small : arcCost N t a ≤ 36000000
   unfolding arcCost
-  cost-small = product-small weight-of slack-small
+  cost-small = product-small (weight-of (arc-of c)) slack-small
 
 -- ---- the cost, arc by arc
 
@@ -98,7 +116,7 @@ module _ {N : Network} {t : List ℕ} {a sum x s : ℕ} (c : TimedArc N t a) (p 
   costs = e ∙ ap (λ (n : ℕ). weight N a * n) q
 
   pub summed-fits : sum + x ≤ 256 * 36000000
-  summed-fits = omega (arith, costs, cost-small c, p .small, arc-small c)
+  summed-fits = omega (arith, costs, cost-small c, p .small, arc-small (arc-of c))
 
   pub summed-more : Summed N t (a + 1) (sum + x)
   unfolding costTo
@@ -128,3 +146,12 @@ pub written-length : {A : Type 0} (f : ℕ → A) (k : ℕ) (row : List A) → l
 unfolding written
 written-length f zero row = refl
 written-length f (suc k) row = length-set (written f k row) k (f k) ∙ written-length f k row
+
+pub written-at : (f : ℕ → ℕ) (k : ℕ) (row : List ℕ) (i : ℕ) → i < k → k ≤ length row → at (written f k row) i ≡ f i
+unfolding written
+written-at f zero row i h l = absurd (omega arith)
+written-at f (suc k) row i h l = go (eq-or-lt-of-le (omega arith)) (written-at f k row i)
+  where
+    go : (i ≡ k) ⊎ (i < k) → (i < k → k ≤ length row → at (written f k row) i ≡ f i) → at (set (written f k row) k (f k)) i ≡ f i
+    go (inl e) r = rw e (getD-set-same (written f k row) k (f k) 0 (omega (arith, written-length f k row)))
+    go (inr m) r = getD-set-other (written f k row) k i (f k) 0 (λ e. omega arith) ∙ r m (omega arith)

@@ -1,5 +1,5 @@
 -- What a well-formed network has. Assumes nothing.
-use mathlib.Core.Path.{_≡_, refl, sym, ap, _∙_}
+use mathlib.Core.Path.{_≡_, refl, sym, ap, _∙_, subst}
 use mathlib.Core.Bool.{Bool, true, false, _||_}
 use Prim.Native.Nat.{ℕ, _+_, _≤_, _<_}
 use native.Mathlib.Omega.{arith}
@@ -8,12 +8,12 @@ use lib.IntN.{ℤ, pos, negsuc, natAbs, _-ℤ_}
 use lib.Signed.{ltZ, leZ, _≤ℤ_}
 use lib.ListN.{length}
 use lib.Dec.{ltb, leb, eqb}
-use Rattle.numbers.proofs.Integers.{up, dn, leℤ, ltZ-false, leZ-false, ofSub}
+use Rattle.numbers.proofs.Integers.{up, dn, leℤ, ofLe, ltZ-false, leZ-false, ofSub}
 use Rattle.numbers.proofs.Divisors.{gcd-pos, gcd-le}
 use Rattle.network.specs.declared.Answer.{Answer}
 use Rattle.network.specs.Network.{Network, events, arcs, period, tail, head, lower, upper, weight}
 use Rattle.network.specs.PublicRule.{arcPeriod, widthOf}
-use Rattle.network.specs.Table.{outside, differ, uneven, strays, beyond, misfits, refusals, refusalsWith, refusalOf, WellFormed}
+use Rattle.network.specs.Table.{outside, differ, uneven, strays, outsideℤ, misfits, refusals, refusalsWith, refusalOf, WellFormed}
 use Rattle.network.specs.Trial.{Even, Ends, named}
 use Rattle.network.proofs.Scans.{true-false}
 use Rattle.network.proofs.Refusing.{Clear, AllClear, coded, clear-all, quiet, clear}
@@ -71,11 +71,18 @@ ends-of N a e =
     let n = neither (leb (events N) (tail N a)) (leb (events N) (head N a)) e in
     record { tail-in = leb-false (events N) (tail N a) (n .0); head-in = leb-false (events N) (head N a) (n .1) }
 
-small : (low : ℤ) → beyond low ≡ false → natAbs low ≤ 7200
-unfolding beyond
+pub insideℤ : {least greatest : ℤ} (x : ℤ) → outsideℤ least greatest x ≡ false → (least ≤ℤ x) × (x ≤ℤ greatest)
+unfolding outsideℤ
+insideℤ {least} {greatest} x e =
+    let n = neither (ltZ x least) (ltZ greatest x) e in
+    let a = ltZ-false x least (n .0) in
+    let b = ltZ-false greatest x (n .1) in
+    (leℤ least x (omega arith), leℤ x greatest (omega arith))
+
+small : (low : ℤ) → outsideℤ (negsuc 7199) (pos 7200) low ≡ false → natAbs low ≤ 7200
 small low e =
-    let n = neither (ltZ low (negsuc 7199)) (ltZ (pos 7200) low) e in
-    go low (ltZ-false low (negsuc 7199) (n .0)) (ltZ-false (pos 7200) low (n .1))
+    let i = insideℤ low e in
+    go low (ofLe (negsuc 7199) low (i .0)) (ofLe low (pos 7200) (i .1))
   where
     go : (z : ℤ) → 0 + dn z ≤ up z + 7200 → up z + 0 ≤ 7200 + dn z → natAbs z ≤ 7200
     go (pos n) h k = omega arith
@@ -113,13 +120,24 @@ pub record Sound (N : Network) : Type 0 where
   pub narrow : (a : ℕ) → a < arcs N → Narrow N a
   pub weights : (a : ℕ) → a < arcs N → Inside 0 10000 (weight N a)
 
--- no line applies anywhere, and so not that of a code
-pub all-clear : (N : Network) → WellFormed N → AllClear (refusals N)
+-- no line applies anywhere
+pub clear-with : (N : Network) (further : ℕ) {r : Answer} → r ≡ refusalOf N further → r .code ≡ 0 → AllClear (refusalsWith N further)
 unfolding coded refusalsWith
-all-clear N w = quiet (refusals N) 0 refl (w .none)
+clear-with N further e z = quiet (refusalsWith N further) 0 refl (sym (ap (λ (a : Answer). a .code) e) ∙ z)
+
+pub all-clear : (N : Network) → WellFormed N → AllClear (refusals N)
+all-clear N w = clear-with N (arcs N) refl (w .none)
 
 pub well-formed : (N : Network) → AllClear (refusals N) → WellFormed N
 well-formed N c = record { none = ap (λ (a : Answer). a .code) (clear-all 0 c) }
+
+-- with a further row: it is as long as the others, and the network is well-formed
+pub long-with : (N : Network) (further : ℕ) → AllClear (refusalsWith N further) → further ≡ arcs N
+unfolding named refusalsWith
+long-with N further c = even-of N further (clear 3 c .nowhere 0 (omega arith)) .further-long
+
+pub well-with : (N : Network) (further : ℕ) → AllClear (refusalsWith N further) → WellFormed N
+well-with N further c = well-formed N (subst (λ (k : ℕ). AllClear (refusalsWith N k)) (long-with N further c) c)
 
 -- as a call learns it
 pub well-of : {N : Network} {r : Answer} → r ≡ refusalOf N (arcs N) → r .code ≡ 0 → WellFormed N

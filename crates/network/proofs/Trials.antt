@@ -11,7 +11,8 @@ use borrow.Author.Tests.{ne-eqb}
 use lib.ListN.{length, drop, getD}
 use lib.Dec.{eqb}
 use lib.Seq.{drop-cons}
-use Rattle.network.specs.Network.{Network, at, events, arcs}
+use Rattle.network.specs.Network.{Network, events, arcs}
+use Rattle.numbers.specs.Row.{at}
 use Rattle.network.specs.Refusals.{Refusal, answer, answerOf}
 use Rattle.network.specs.Table.{refusalsWith, refusalOf}
 use Rattle.network.specs.Trial.{never, named, line, order, placesOf, Even, Ends, Asks, AsksAt, Scanned}

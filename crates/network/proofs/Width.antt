@@ -14,7 +14,7 @@ use Rattle.network.specs.PublicRule.{slack, tension, met, widthOf}
 use Rattle.network.proofs.Sound.{Sound}
 
 -- of a difference that is not below zero
-size : (z : ℤ) → dn z ≤ up z → up z ≡ natAbs z + dn z
+pub size : (z : ℤ) → dn z ≤ up z → up z ≡ natAbs z + dn z
 size (pos n) h = omega arith
 size (negsuc n) h = absurd (omega arith)
 

@@ -2,12 +2,24 @@
 use mathlib.Core.Path.{_≡_}
 use mathlib.Core.List.{List}
 use Prim.Native.Nat.{ℕ, _≤_, _<_}
-use lib.IntN.{ℤ}
+use lib.IntN.{ℤ, natAbs, _-ℤ_}
+use lib.Signed.{_≤ℤ_}
 use lib.ListN.{length}
-use Rattle.network.specs.Network.{Network, at, events, arcs}
+use Rattle.network.specs.Network.{Network, events, arcs}
+use Rattle.numbers.specs.Row.{at}
 use Rattle.network.specs.PublicRule.{tension, costOf}
 use Rattle.network.specs.Table.{WellFormed}
 use Rattle.network.specs.Rows.{written}
+
+-- bounds in order, less than the longest period apart
+pub record Span (low high : ℤ) : Type 0 where
+  pub ordered : low ≤ℤ high
+  pub small : natAbs (high -ℤ low) < 3600
+
+-- a listed tension for each arc
+pub record Listed (N : Network) (x : List ℤ) : Type 0 where
+  pub well : WellFormed N
+  pub long : length x ≡ arcs N
 
 -- a time for each event
 pub record Timed (N : Network) (t : List ℕ) : Type 0 where

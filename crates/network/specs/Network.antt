@@ -1,9 +1,10 @@
 -- A network: six rows. Events and arcs are numbered from 0. Definitions alone.
 use mathlib.Core.List.{List}
 use Prim.Native.Nat.{ℕ}
-use lib.IntN.{ℤ, pos}
-use lib.ListN.{length, getD}
+use lib.IntN.{ℤ}
+use lib.ListN.{length}
 use denote.Ref.{RefT, now}
+use Rattle.numbers.specs.Row.{at, atℤ}
 
 pub record Network : Type 0 where
   pub periods : List ℕ
@@ -19,13 +20,6 @@ net p t h l u w = record { periods = p; tails = t; heads = h; lowers = l; uppers
 
 abbrev pub netOf : RefT (List ℕ) → RefT (List ℕ) → RefT (List ℕ) → RefT (List ℤ) → RefT (List ℤ) → RefT (List ℕ) → Network
 netOf p t h l u w = net (now p) (now t) (now h) (now l) (now u) (now w)
-
--- entry i of a row of unsigned and of signed numbers
-abbrev pub at : List ℕ → ℕ → ℕ
-at row i = getD row i 0
-
-abbrev pub atℤ : List ℤ → ℕ → ℤ
-atℤ row i = getD row i (pos 0)
 
 -- n, the number of events, and m, the number of arcs
 abbrev pub events : Network → ℕ

@@ -9,7 +9,8 @@ use lib.ListN.{length}
 use lib.Dec.{ltb}
 use Rattle.numbers.specs.Divisor.{gcd}
 use Rattle.numbers.specs.Remainder.{remainder}
-use Rattle.network.specs.Network.{Network, at, events, arcs, period, tail, head, lower, upper, weight}
+use Rattle.network.specs.Network.{Network, events, arcs, period, tail, head, lower, upper, weight}
+use Rattle.numbers.specs.Row.{at}
 
 -- arc period g: the greatest common divisor of the periods at the two ends of arc a
 unfoldable pub arcPeriod : Network → ℕ → ℕ

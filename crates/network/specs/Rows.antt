@@ -3,13 +3,24 @@ use mathlib.Core.List.{List}
 use mathlib.Core.Bool.{Bool, not}
 use Prim.Native.Nat.{ℕ, zero, suc}
 use lib.ListN.{set}
+use lib.IntN.{ℤ}
 use lib.Dec.{leb}
-use Rattle.network.specs.Network.{Network, at}
+use Rattle.network.specs.Network.{Network, lower, upper}
+use Rattle.numbers.specs.Row.{at, atℤ}
 use Rattle.network.specs.PublicRule.{met}
+use Rattle.network.specs.Table.{outsideℤ, differ}
 
 -- a time is not below its period
 abbrev pub late : List ℕ → List ℕ → ℕ → Bool
 late periods t v = leb (at periods v) (at t v)
+
+-- a period differs from event 0's
+abbrev pub other : List ℕ → ℕ → Bool
+other periods v = differ (at periods v) (at periods 0)
+
+-- a listed tension is outside its arc's bounds
+abbrev pub astray : Network → List ℤ → ℕ → Bool
+astray N x a = outsideℤ (lower N a) (upper N a) (atℤ x a)
 
 -- an arc is not met
 abbrev pub unmet : Network → List ℕ → ℕ → Bool

@@ -12,9 +12,12 @@ use Rattle.network.specs.Network.{Network, events, arcs, period, tail, h
 use Rattle.network.specs.PublicRule.{arcPeriod}
 use Rattle.network.specs.Refusals.{Refusal, once, each, answerOf}
 
--- below the least or above the greatest
+-- below the least or above the greatest, of unsigned and of signed numbers
 unfoldable pub outside : ℕ → ℕ → ℕ → Bool
 outside least greatest x = ltb x least || ltb greatest x
+
+unfoldable pub outsideℤ : ℤ → ℤ → ℤ → Bool
+outsideℤ least greatest x = ltZ x least || ltZ greatest x
 
 abbrev pub differ : ℕ → ℕ → Bool
 differ a b = not (eqb a b)
@@ -28,10 +31,6 @@ uneven m heads lowers uppers weights further =
 unfoldable pub strays : ℕ → ℕ → ℕ → Bool
 strays n from to = leb n from || leb n to
 
--- lower is below -7,200 or above 7,200
-unfoldable pub beyond : ℤ → Bool
-beyond low = ltZ low (negsuc 7199) || ltZ (pos 7200) low
-
 -- upper is below lower, or upper less lower is at least g
 unfoldable pub misfits : ℤ → ℤ → ℕ → Bool
 misfits low high g = ltZ high low || leZ (pos g) (high -ℤ low)
@@ -39,13 +38,21 @@ misfits low high g = ltZ high low || leZ (pos g) (high -ℤ low)
 -- the table, where a row of length `further` counts as an arc row
 unfoldable pub refusalsWith : Network → ℕ → List Refusal
 refusalsWith N further =
+    -- n is 0 or above 64
     once 1 (outside 1 64 (events N))
+    -- a period is 0 or above 3,600
     ∷ each 2 (events N) (λ v. outside 1 3600 (period N v))
+    -- arc rows differ in length, or m above 256
     ∷ once 3 (uneven (arcs N) (length (N .heads)) (length (N .lowers)) (length (N .uppers)) (length (N .weights)) further)
+    -- an end is n or more
     ∷ each 4 (arcs N) (λ a. strays (events N) (tail N a) (head N a))
+    -- tail equals head
     ∷ each 5 (arcs N) (λ a. eqb (tail N a) (head N a))
-    ∷ each 6 (arcs N) (λ a. beyond (lower N a))
+    -- lower outside its limits
+    ∷ each 6 (arcs N) (λ a. outsideℤ (negsuc 7199) (pos 7200) (lower N a))
+    -- upper below lower, or upper less lower at least g
     ∷ each 7 (arcs N) (λ a. misfits (lower N a) (upper N a) (arcPeriod N a))
+    -- weight above 10,000
     ∷ each 8 (arcs N) (λ a. outside 0 10000 (weight N a))
     ∷ []
 

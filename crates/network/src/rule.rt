@@ -1,14 +1,16 @@
 // The public rule at one arc, and the scans over all events and arcs.
 ghost use mathlib.Core.Path.{_≡_};
 ghost use Prim.Native.Nat.{_*_, _≤_, _<_};
-ghost use lib.IntN.{pos, natAbs, _+ℤ_};
+ghost use lib.IntN.{pos, natAbs, _+ℤ_, _-ℤ_};
 ghost use lib.ListN.{length};
-ghost use Rattle.network.specs.Network.{netOf, at, atℤ};
+ghost use Rattle.network.specs.Network.{netOf};
+ghost use Rattle.numbers.specs.Row.{at, atℤ};
 ghost use Rattle.network.specs.PublicRule.{arcPeriod, slackBy, slack as slackOf, tension as tensionOf, met as metOf, costOf};
 ghost use Rattle.network.specs.First.{First};
-ghost use Rattle.network.specs.Rows.{late, unmet};
+ghost use Rattle.network.specs.Table.{outsideℤ};
+ghost use Rattle.network.specs.Rows.{late, other, astray, unmet, written};
 ghost use Rattle.network.specs.Trial.{AsksPeriod};
-ghost use Rattle.network.specs.Inner.{Timed, TimedArc, TimedEnd, Room, Noted};
+ghost use Rattle.network.specs.Inner.{Span, Listed, Timed, TimedArc, TimedEnd, Room, Noted};
 
 // Entry i of a row, as a number of this machine's size.
 pub fn entry(row: &[u32], i: usize) -> usize
@@ -24,6 +26,13 @@ pub fn bound(row: &[i32], i: usize) -> i32
     ensures { λ r. ⌜ r ≡ atℤ (now (row .entry)) i ⌝ }
 {
     row[i]
+}
+
+// Is x below the least or above the greatest?
+pub fn outside_signed(least: i32, greatest: i32, x: i32) -> bool
+    ensures { λ r. ⌜ r ≡ outsideℤ least greatest x ⌝ }
+{
+    x < least || x > greatest
 }
 
 // The greatest common divisor of the periods at the two ends of an arc.
@@ -52,8 +61,16 @@ pub fn slack_by(g: u32, low: i32, from: u32, to: u32) -> u32
     numbers::remainder(numbers::difference(to, from) - (low as i64), g)
 }
 
+// Upper less lower: the slack up to which an arc is met.
+pub fn width(low: i32, high: i32) -> u32
+    requires { ⌜ Span low high ⌝ }
+    ensures { λ r. ⌜ r ≡ natAbs (high -ℤ low) ⌝ }
+{
+    ((high as i64) - (low as i64)) as u32
+}
+
 // The time at an end of an arc.
-fn time_at(ends: &[u32], times: &[u32], arc: usize) -> u32
+pub fn time_at(ends: &[u32], times: &[u32], arc: usize) -> u32
     requires { ⌜ TimedEnd (now ends) (now times) arc ⌝ }
     ensures { λ r. ⌜ r ≡ at (now (times .entry)) (at (now (ends .entry)) arc) ⌝ }
 {
@@ -147,6 +164,43 @@ pub fn first_late(periods: &[u32], times: &[u32]) -> usize
     event
 }
 
+// The first event whose period differs from event 0's, or the number of events.
+pub fn first_other(periods: &[u32]) -> usize
+    ensures { λ r. ⌜ First (other (now (periods .entry))) (length (now (periods .entry))) r ⌝ }
+{
+    let mut event = 0;
+    while event < periods.len() {
+        if periods[event] != periods[0] {
+            break;
+        }
+        event += 1;
+    }
+    event
+}
+
+// The first arc whose listed tension is outside its bounds, or the number of arcs.
+pub fn first_astray(
+    periods: &[u32],
+    tail: &[u32],
+    head: &[u32],
+    lower: &[i32],
+    upper: &[i32],
+    weight: &[u32],
+    tensions: &[i32],
+) -> usize
+    requires { ⌜ Listed (netOf periods tail head lower upper weight) (now tensions) ⌝ }
+    ensures { λ r. ⌜ First (astray (netOf (periods .entry) (tail .entry) (head .entry) (lower .entry) (upper .entry) (weight .entry)) (now (tensions .entry))) (length (now (tail .entry))) r ⌝ }
+{
+    let mut arc = 0;
+    while arc < tail.len() {
+        if outside_signed(bound(lower, arc), bound(upper, arc), bound(tensions, arc)) {
+            break;
+        }
+        arc += 1;
+    }
+    arc
+}
+
 // The first arc in order that is not met, or the number of arcs.
 pub fn first_unmet(
     periods: &[u32],
@@ -220,4 +274,16 @@ pub fn note_tensions(
         arc += 1;
     }
     sum
+}
+
+// Writes each event's time.
+pub fn note_times(times: &[u32], row: &mut [u32])
+    requires { ⌜ length (now times) ≤ length (now row) ⌝ }
+    ensures { λ _. ⌜ now (row .exit) ≡ written (at (now (times .entry))) (length (now (times .entry))) (now (row .entry)) ⌝ }
+{
+    let mut event = 0;
+    while event < times.len() {
+        row[event] = times[event];
+        event += 1;
+    }
 }

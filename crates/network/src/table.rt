@@ -1,12 +1,13 @@
 // The network's first refusal: one scan for all lines of the table.
 ghost use mathlib.Core.Path.{_≡_};
 ghost use Rattle.network.specs.Network.{netOf};
-ghost use Rattle.network.specs.Table.{outside as outsideOf, uneven as unevenOf, strays as straysOf, beyond as beyondOf, misfits as misfitsOf, refusalOf};
+ghost use Rattle.network.specs.Table.{outside as outsideOf, uneven as unevenOf, strays as straysOf, misfits as misfitsOf, refusalOf};
 ghost use Rattle.network.specs.Trial.{line, placesOf, AsksAt, AsksScan, Scanned};
 use crate::Answer;
 use crate::rule::arc_period;
 use crate::rule::bound;
 use crate::rule::entry;
+use crate::rule::outside_signed;
 
 // The codes in the order in which they are tried.
 const ORDER: [u32; 8] = [1, 2, 3, 4, 5, 6, 7, 8];
@@ -60,13 +61,6 @@ fn strays(n: usize, from: usize, to: usize) -> bool
     n <= to
 }
 
-// Is the lower bound outside its limits?
-fn beyond(low: i32) -> bool
-    ensures { λ r. ⌜ r ≡ beyondOf low ⌝ }
-{
-    low < -7200 || low > 7200
-}
-
 // Is the upper bound below the lower, or above it by the arc period or more? The upper may be any i32, so the difference is one of i64.
 fn misfits(low: i32, high: i32, g: u32) -> bool
     ensures { λ r. ⌜ r ≡ misfitsOf low high g ⌝ }
@@ -118,7 +112,7 @@ fn applies(
         ),
         4 => strays(periods.len(), entry(tail, i), entry(head, i)),
         5 => entry(tail, i) == entry(head, i),
-        6 => beyond(bound(lower, i)),
+        6 => outside_signed(-7200, 7200, bound(lower, i)),
         7 => misfits(
             bound(lower, i),
             bound(upper, i),

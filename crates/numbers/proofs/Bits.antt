@@ -9,10 +9,10 @@ use native.Mathlib.Nat.{div-le-self}
 use lib.Dec.{T}
 use lib.IntN.{ℤ, pos, negsuc, natAbs, negℤ, _+ℤ_, _-ℤ_}
 use lib.Signed.{mag, nonNeg, ltZ, leZ, quotZ, remZ, mag-rem, _≤ℤ_, _<ℤ_}
-use mir.Syntax.{Width}
+use mir.Syntax.{Width, w32, w64}
 use mir.Val.{Fits, SFits, toZ, ofZ, hbits}
 use mir.ValLaws.{toZ-ofZ, toZ-pos, sfits-le}
-use Rattle.numbers.proofs.Integers.{leℤ, ltℤ, ltZ-true, ltZ-false, leZ-true, leZ-false}
+use Rattle.numbers.proofs.Integers.{sfitsℤ, ofSfits, ofSub, leℤ, ltℤ, ltZ-true, ltZ-false, leZ-true, leZ-false}
 
 pub record Bits (w : Width) (n : ℕ) (z : ℤ) : Type 0 where
   pub is : toZ w n ≡ z
@@ -62,6 +62,23 @@ cast {w} {w′} p f = subst (SFits w′) (sym (p .is)) f
 
 pub cast-bits : {w w′ : Width} {n : ℕ} {z : ℤ} → Bits w n z → SFits w′ z → Bits w′ (ofZ w′ (toZ w n)) z
 cast-bits p f = by (of (cast p f)) (p .is)
+
+-- a number of 32 bits in 64: what its cast asks, what it then stands for, and that two of them differ by one of 64
+widen : {z : ℤ} → SFits w32 z → SFits w64 z
+widen f = record { sfits = omega arith }
+
+pub wide : {z : ℤ} → SFits w32 z → SFits w64 (toZ w32 (ofZ w32 z))
+wide f = cast (of f) (widen f)
+
+pub wide-bits : {z : ℤ} → SFits w32 z → Bits w64 (ofZ w64 (toZ w32 (ofZ w32 z))) z
+wide-bits f = cast-bits (of f) (widen f)
+
+pub apart-fits : {y z : ℤ} → SFits w32 y → SFits w32 z → SFits w64 (y -ℤ z)
+apart-fits {y} {z} f g =
+    let a = ofSfits w32 y f in
+    let b = ofSfits w32 z g in
+    let d = ofSub y z in
+    sfitsℤ w64 (y -ℤ z) (omega arith) (omega arith)
 
 -- a cast to an unsigned type
 pub cast-pos : {w w′ : Width} {n k : ℕ} → Bits w n (pos k) → Fits w′ k → T (nonNeg (toZ w n)) × Fits w′ (natAbs (toZ w n))

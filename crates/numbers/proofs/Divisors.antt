@@ -34,6 +34,9 @@ gcd-one {g = g} {h = h} p q = dvd-antisymm (q .greatest g (p .left) (p .right)) 
 pub gcd-only : {a b g : ℕ} → IsGcd a b g → g ≡ gcd a b
 gcd-only {a} {b} p = gcd-one p (gcd-is a b)
 
+pub gcd-same : (a : ℕ) → gcd a a ≡ a
+gcd-same a = gcd-one (gcd-is a a) (record { left = dvd-refl a; right = dvd-refl a; greatest = λ d x y. x })
+
 -- ---- its size
 
 pub gcd-pos : (a b : ℕ) → 0 < a → 0 < gcd a b

@@ -52,6 +52,10 @@ pub cong-of-remainders : (a b : ℤ) (g : ℕ) → 0 < g → remainder a g ≡ r
 cong-of-remainders a b g h e =
     cong-trans (remainder-cong a g h) (cong-trans (cong-eq g (ap pos e)) (cong-sym (remainder-cong b g h)))
 
+pub mod-cong : (n g : ℕ) → 0 < g → Cong g (pos (n % g)) (pos n)
+unfolding remainder
+mod-cong n g h = cong-sym (remainder-cong (pos n) g h)
+
 -- ---- the machine's remainder
 
 remZ-cong : (z : ℤ) (g : ℕ) → 0 < g → Cong g z (remZ z (pos g))

@@ -2,6 +2,8 @@
 ghost use Rattle.network.specs.Network.{netOf};
 ghost use Rattle.timetable.specs.Check.{Checked};
 ghost use Rattle.timetable.specs.Measure.{Measured};
+ghost use Rattle.timetable.specs.Rebuild.{Rebuilt};
+ghost use Rattle.timetable.specs.Solve.{Solved};
 use network::Answer;
 
 #[no_mangle]
@@ -33,4 +35,36 @@ pub extern "C" fn rubblewaltz_measure(
     ensures { λ r. ⌜ Measured (netOf (periods .entry) (tail .entry) (head .entry) (lower .entry) (upper .entry) (weight .entry)) (now (times .entry)) (now (tensions .entry)) (now (tensions .exit)) r ⌝ }
 {
     timetable::measure::measure(periods, tail, head, lower, upper, weight, times, tensions)
+}
+
+#[no_mangle]
+pub extern "C" fn rubblewaltz_solve(
+    periods: &[u32],
+    tail: &[u32],
+    head: &[u32],
+    lower: &[i32],
+    upper: &[i32],
+    weight: &[u32],
+    times: &mut [u32],
+    tensions: &mut [i32],
+) -> Answer
+    ensures { λ r. ⌜ Solved (netOf (periods .entry) (tail .entry) (head .entry) (lower .entry) (upper .entry) (weight .entry)) (now (times .entry)) (now (tensions .entry)) (now (times .exit)) (now (tensions .exit)) r ⌝ }
+{
+    timetable::solve::solve(periods, tail, head, lower, upper, weight, times, tensions)
+}
+
+#[no_mangle]
+pub extern "C" fn rubblewaltz_rebuild(
+    periods: &[u32],
+    tail: &[u32],
+    head: &[u32],
+    lower: &[i32],
+    upper: &[i32],
+    weight: &[u32],
+    tensions: &[i32],
+    times: &mut [u32],
+) -> Answer
+    ensures { λ r. ⌜ Rebuilt (netOf (periods .entry) (tail .entry) (head .entry) (lower .entry) (upper .entry) (weight .entry)) (now (tensions .entry)) (now (times .entry)) (now (times .exit)) r ⌝ }
+{
+    timetable::rebuild::rebuild(periods, tail, head, lower, upper, weight, tensions, times)
 }

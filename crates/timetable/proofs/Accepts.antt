@@ -7,7 +7,8 @@ use native.Mathlib.Omega.{arith}
 use borrow.Author.Tests.{eqb-true, eq-eqb, not-false, lt-ltb, lt-leb, ltb-true, leb-false}
 use lib.ListN.{length}
 use Rattle.network.specs.declared.Answer.{Answer}
-use Rattle.network.specs.Network.{Network, events, at, period}
+use Rattle.network.specs.Network.{Network, events, period}
+use Rattle.numbers.specs.Row.{at}
 use Rattle.network.specs.PublicRule.{allowed, Feasible, costOf}
 use Rattle.network.specs.Refusals.{answer}
 use Rattle.network.specs.Table.{refusals, refusalsWith, WellFormed}

@@ -1,3 +1,5 @@
 -- What each public call promises.
 pub mod Check
 pub mod Measure
+pub mod Solve
+pub mod Rebuild

@@ -1,3 +1,5 @@
 // The public calls, a module for each. None asks anything of its caller.
 pub mod check;
 pub mod measure;
+pub mod rebuild;
+pub mod solve;

@@ -2,7 +2,7 @@
 use mathlib.Core.Path.{_∙_}
 use Rattle.numbers.specs.Divisor.{gcd}
 use Rattle.numbers.proofs.Divisors.{gcd-only}
-use Rattle.network.specs.Network.{at}
+use Rattle.numbers.specs.Row.{at}
 use Rattle.network.specs.PublicRule.{arcPeriod}
 use borrow.Author.Needs.{needs}
 use Rattle.network.proofs.rule.arc_period.Statement.{statement}

@@ -5,7 +5,7 @@ use native.Mathlib.Omega.{arith}
 use lib.ListN.{length}
 use Rattle.network.specs.Network.{Network, net}
 use Rattle.network.specs.Inner.{TimedArc}
-use Rattle.network.proofs.Arcs.{Summed, arc-small, in-weights, weight-of, slack-kept, summed-none, summed-fits, summed-more, summed-all}
+use Rattle.network.proofs.Arcs.{arc-of, Summed, arc-small, in-weights, weight-of, slack-kept, summed-none, summed-fits, summed-more, summed-all}
 use Rattle.network.proofs.rule.cost.Statement.{statement}
 use Rattle.network.proofs.rule.cost.Tie as tie
 
@@ -34,16 +34,16 @@ slack-requires : tie.Need-slack-requires Inv-loop μ-loop
 slack-requires c κs = here c
 
 mul-arc-cost : tie.Need-mul-arc-cost Inv-loop μ-loop
-mul-arc-cost c = omega (arith, arc-small (here (c .before)))
+mul-arc-cost c = omega (arith, arc-small (arc-of (here (c .before))))
 
 shared-slice-read-arc-cost : tie.Need-shared-slice-read-arc-cost Inv-loop μ-loop
-shared-slice-read-arc-cost c = in-weights (here (c .before .before))
+shared-slice-read-arc-cost c = in-weights (arc-of (here (c .before .before)))
 
 arc-cost-requires : tie.Need-arc-cost-requires Inv-loop μ-loop
 arc-cost-requires c κs =
     let s = c .before in
     let h = here (s .before) in
-    (weight-of h, slack-kept h (s .slack .ensures))
+    (weight-of (arc-of h), slack-kept h (s .slack .ensures))
 
 add-sum : tie.Need-add-sum Inv-loop μ-loop
 add-sum c =

@@ -3,7 +3,7 @@ use mathlib.Core.Path.{_∙_}
 use lib.Signed.{leZ}
 use borrow.Author.Needs.{needs}
 use Rattle.network.specs.PublicRule.{met}
-use Rattle.network.proofs.Arcs.{kept, in-uppers}
+use Rattle.network.proofs.Arcs.{arc-of, kept, in-uppers}
 use Rattle.network.proofs.rule.met.Statement.{statement}
 use Rattle.network.proofs.rule.met.Tie as tie
 
@@ -14,7 +14,7 @@ tension-requires : tie.Need-tension-requires
 tension-requires c κs = search needs
 
 bound-requires : tie.Need-bound-requires
-bound-requires c κs = in-uppers (start (c .before) .pre)
+bound-requires c κs = in-uppers (arc-of (start (c .before) .pre))
 
 returns : tie.Need-returns
 unfolding met

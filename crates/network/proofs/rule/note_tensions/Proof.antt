@@ -9,7 +9,7 @@ use Rattle.network.specs.Network.{Network, net}
 use Rattle.network.specs.PublicRule.{tension}
 use Rattle.network.specs.Rows.{written}
 use Rattle.network.specs.Inner.{TimedArc}
-use Rattle.network.proofs.Arcs.{kept, Summed, arc-small, in-lowers, in-weights, weight-of, lower-kept, slack-kept, summed-none, summed-fits, summed-more, summed-all, tension-is, written-none, written-more, written-length}
+use Rattle.network.proofs.Arcs.{arc-of, kept, Summed, arc-small, in-lowers, in-weights, weight-of, lower-kept, slack-kept, summed-none, summed-fits, summed-more, summed-all, tension-is, written-none, written-more, written-length}
 use Rattle.network.proofs.rule.note_tensions.Statement.{statement}
 use Rattle.network.proofs.rule.note_tensions.Tie as tie
 
@@ -52,16 +52,16 @@ slack-requires : tie.Need-slack-requires Inv-loop μ-loop
 slack-requires c κs = here c
 
 bound-requires : tie.Need-bound-requires Inv-loop μ-loop
-bound-requires c κs = in-lowers (here (c .before))
+bound-requires c κs = in-lowers (arc-of (here (c .before)))
 
 raised-requires : tie.Need-raised-requires Inv-loop μ-loop
 raised-requires c κs =
     let s = c .before in
     let h = here (s .before) in
-    (lower-kept h (kept (c .bound .ok) ∙ c .bound .ensures), slack-kept h (s .slack .ensures))
+    (lower-kept (arc-of h) (kept (c .bound .ok) ∙ c .bound .ensures), slack-kept h (s .slack .ensures))
 
 mul-t : tie.Need-mul-t Inv-loop μ-loop
-mul-t c = omega (arith, arc-small (here (c .before .before .before)))
+mul-t c = omega (arith, arc-small (arc-of (here (c .before .before .before))))
 
 slice-set-from-t : tie.Need-slice-set-from-t Inv-loop μ-loop
 slice-set-from-t c =
@@ -69,16 +69,16 @@ slice-set-from-t c =
     omega (arith, long (i .before), start (i .before) .pre .room, i .loop-test .taken)
 
 mul-arc-cost : tie.Need-mul-arc-cost Inv-loop μ-loop
-mul-arc-cost c = omega (arith, arc-small (here (c .before .before .before)))
+mul-arc-cost c = omega (arith, arc-small (arc-of (here (c .before .before .before))))
 
 shared-slice-read-arc-cost : tie.Need-shared-slice-read-arc-cost Inv-loop μ-loop
-shared-slice-read-arc-cost c = in-weights (here (c .before .before .before .before))
+shared-slice-read-arc-cost c = in-weights (arc-of (here (c .before .before .before .before)))
 
 arc-cost-requires : tie.Need-arc-cost-requires Inv-loop μ-loop
 arc-cost-requires c κs =
     let s = c .before .before .before in
     let h = here (s .before) in
-    (weight-of h, slack-kept h (s .slack .ensures))
+    (weight-of (arc-of h), slack-kept h (s .slack .ensures))
 
 add-sum : tie.Need-add-sum Inv-loop μ-loop
 add-sum c =

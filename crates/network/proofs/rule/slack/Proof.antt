@@ -2,7 +2,7 @@
 use mathlib.Core.Path.{_∙_}
 use native.Mathlib.Omega.{arith}
 use Rattle.network.specs.PublicRule.{slackBy, slack}
-use Rattle.network.proofs.Arcs.{kept, asks-period, tail-end, head-end, in-lowers, period-of}
+use Rattle.network.proofs.Arcs.{arc-of, kept, asks-period, tail-end, head-end, in-lowers, period-of}
 use Rattle.network.proofs.rule.slack.Statement.{statement}
 use Rattle.network.proofs.rule.slack.Tie as tie
 
@@ -10,7 +10,7 @@ abbrev start : tie.After-shared-slice-known5 → tie.Start
 start c = c .before .before .before .before .before
 
 arc-period-requires : tie.Need-arc-period-requires
-arc-period-requires c κs = asks-period (start c .pre)
+arc-period-requires c κs = asks-period (arc-of (start c .pre))
 
 time-at-requires : tie.Need-time-at-requires
 time-at-requires c κs = tail-end (start (c .before) .pre)
@@ -19,12 +19,12 @@ time-at-requires-2 : tie.Need-time-at-requires-2
 time-at-requires-2 c κs = head-end (start (c .before .before) .pre)
 
 bound-requires : tie.Need-bound-requires
-bound-requires c κs = in-lowers (start (c .before .before .before) .pre)
+bound-requires c κs = in-lowers (arc-of (start (c .before .before .before) .pre))
 
 slack-by-requires : tie.Need-slack-by-requires
 slack-by-requires c κs =
     let g = c .before .before .before in
-    omega (arith, g .arc-period .ensures, period-of (start (g .before) .pre) .some)
+    omega (arith, g .arc-period .ensures, period-of (arc-of (start (g .before) .pre)) .some)
 
 returns : tie.Need-returns
 unfolding slack

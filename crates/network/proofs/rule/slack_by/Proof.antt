@@ -4,11 +4,11 @@ use native.Mathlib.Omega.{arith}
 use mathlib.Core.Path.{ap, _∙_}
 use lib.IntN.{ℤ, pos, _-ℤ_}
 use mir.Syntax.{w32, w64}
-use mir.Val.{SFits, toZ, ofZ}
+use mir.Val.{SFits, ofZ}
 use Rattle.numbers.specs.Remainder.{remainder}
 use Rattle.numbers.proofs.Integers.{sfitsℤ, ofSfits, ofSub}
 use Rattle.numbers.proofs.Remainders.{remainder-only}
-use Rattle.numbers.proofs.Bits.{Bits, of, by, sub, sub-bits, cast, cast-bits}
+use Rattle.numbers.proofs.Bits.{Bits, of, by, wide, wide-bits, sub, sub-bits}
 use Rattle.network.proofs.rule.slack_by.Statement.{statement}
 use Rattle.network.proofs.rule.slack_by.Tie as tie
 
@@ -17,12 +17,6 @@ D s = pos (s .args .to) -ℤ pos (s .args .from)
 
 D-bits : (c : tie.After-difference) → Bits w64 (ofZ w64 (c .difference .result)) (D (c .before))
 D-bits c = by (of (record { sfits = c .difference .ok })) (c .difference .ensures)
-
-low-fits : (s : tie.Start) → SFits w64 (s .args .low)
-low-fits s = record { sfits = omega arith }
-
-low-bits : (s : tie.Start) → Bits w64 (ofZ w64 (toZ w32 (ofZ w32 (s .args .low)))) (s .args .low)
-low-bits s = cast-bits (of (s .fits .low)) (low-fits s)
 
 fits : (s : tie.Start) → SFits w64 (D s -ℤ s .args .low)
 fits s =
@@ -35,10 +29,10 @@ difference-requires : tie.Need-difference-requires
 difference-requires c κs = search needs
 
 cast-remainder : tie.Need-cast-remainder
-cast-remainder c = cast (of (c .before .fits .low)) (low-fits (c .before))
+cast-remainder c = wide (c .before .fits .low)
 
 sub-remainder : tie.Need-sub-remainder
-sub-remainder c = sub (D-bits c) (low-bits (c .before)) (fits (c .before))
+sub-remainder c = sub (D-bits c) (wide-bits (c .before .fits .low)) (fits (c .before))
 
 remainder-requires : tie.Need-remainder-requires
 remainder-requires c κs = search needs
@@ -47,7 +41,7 @@ returns : tie.Need-returns
 returns c =
     let d = c .before in
     let s = d .before in
-    remainder-only (c .remainder .ensures) ∙ ap (λ (z : ℤ). remainder z (s .args .g)) (sub-bits (D-bits d) (low-bits s) (fits s) .is)
+    remainder-only (c .remainder .ensures) ∙ ap (λ (z : ℤ). remainder z (s .args .g)) (sub-bits (D-bits d) (wide-bits (s .fits .low)) (fits s) .is)
 
 pub slack-by-spec : {M : Type 1} → statement M
 slack-by-spec = tie.close (tie.spec difference-requires cast-remainder sub-remainder remainder-requires returns)

@@ -1,7 +1,7 @@
 -- `network::rule::tension` meets its contract: lower plus slack. Assumes nothing.
 use mathlib.Core.Path.{_∙_}
 use borrow.Author.Needs.{needs}
-use Rattle.network.proofs.Arcs.{kept, in-lowers, lower-kept, slack-kept, tension-is}
+use Rattle.network.proofs.Arcs.{arc-of, kept, in-lowers, lower-kept, slack-kept, tension-is}
 use Rattle.network.proofs.rule.tension.Statement.{statement}
 use Rattle.network.proofs.rule.tension.Tie as tie
 
@@ -12,13 +12,13 @@ slack-requires : tie.Need-slack-requires
 slack-requires c κs = search needs
 
 bound-requires : tie.Need-bound-requires
-bound-requires c κs = in-lowers (start (c .before) .pre)
+bound-requires c κs = in-lowers (arc-of (start (c .before) .pre))
 
 raised-requires : tie.Need-raised-requires
 raised-requires c κs =
     let s = c .before in
     let p = start (s .before) .pre in (
-      lower-kept p (kept (c .bound .ok) ∙ c .bound .ensures),
+      lower-kept (arc-of p) (kept (c .bound .ok) ∙ c .bound .ensures),
       slack-kept p (s .slack .ensures),
     )
 

@@ -1,6 +1,6 @@
 -- `network::rule::time_at` meets its contract. Assumes nothing.
 use mathlib.Core.Path.{ap}
-use Rattle.network.specs.Network.{at}
+use Rattle.numbers.specs.Row.{at}
 use borrow.Author.Needs.{needs}
 use Rattle.network.proofs.rule.time_at.Statement.{statement}
 use Rattle.network.proofs.rule.time_at.Tie as tie

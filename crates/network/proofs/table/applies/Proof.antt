@@ -1,10 +1,11 @@
 -- `network::table::applies` meets its contract: each arm by the line of its code. Assumes nothing.
 use mathlib.Core.Path.{refl, ap, _∙_}
 use native.Mathlib.Omega.{arith}
+use lib.IntN.{pos, negsuc}
 use lib.Dec.{eqb}
 use Rattle.network.specs.Network.{Network, net, events}
 use Rattle.network.specs.Trial.{named}
-use Rattle.network.specs.Table.{outside, strays, beyond, misfits, refusalsWith}
+use Rattle.network.specs.Table.{outside, outsideℤ, strays, misfits, refusalsWith}
 use Rattle.network.proofs.Arcs.{kept}
 use Rattle.network.proofs.Trials.{ArcAt, at-code, place-at, arc-at, no-code}
 use borrow.Author.Needs.{needs}
@@ -69,8 +70,8 @@ entry-requires-5 c κs = arc5 (c .before) .head
 bound-requires : tie.Need-bound-requires
 bound-requires c κs = arc6 c .lower
 
-beyond-requires : tie.Need-beyond-requires
-beyond-requires c κs = search needs
+outside-signed-requires : tie.Need-outside-signed-requires
+outside-signed-requires c κs = search needs
 
 bound-requires-2 : tie.Need-bound-requires-2
 bound-requires-2 c κs = arc7 c .lower
@@ -126,7 +127,7 @@ returns-6 : tie.Need-returns-6
 unfolding named refusalsWith
 returns-6 c =
     let s = start (c .before .before .before) in
-    at-code (N s) (s .args .further) 6 (s .args .i) (c .before .before .match .keys6) (c .beyond .ensures ∙ ap beyond (kept (c .before .bound .ok) ∙ c .before .bound .ensures))
+    at-code (N s) (s .args .further) 6 (s .args .i) (c .before .before .match .keys6) (c .outside-signed .ensures ∙ ap (outsideℤ (negsuc 7199) (pos 7200)) (kept (c .before .bound .ok) ∙ c .before .bound .ensures))
 
 returns-7 : tie.Need-returns-7
 unfolding named refusalsWith
@@ -163,7 +164,7 @@ applies-spec =
     entry-requires-4
     entry-requires-5
     bound-requires
-    beyond-requires
+    outside-signed-requires
     bound-requires-2
     bound-requires-3
     arc-period-requires

@@ -5,7 +5,8 @@ use native.Mathlib.Nat.{le-antisymm}
 use native.Mathlib.Omega.{arith}
 use lib.ListN.{length}
 use borrow.Author.Needs.{needs}
-use Rattle.network.specs.Network.{Network, net, at}
+use Rattle.network.specs.Network.{Network, net}
+use Rattle.numbers.specs.Row.{at}
 use Rattle.network.specs.Trial.{line, order}
 use Rattle.network.proofs.Trials.{Tried, Turn, turn, tried-none, tried-more, tried-refused, tried-all, scanned-clear}
 use Rattle.network.proofs.table.refusal.Statement.{statement}

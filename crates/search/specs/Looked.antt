@@ -1,0 +1,19 @@
+-- What the search finds: the smallest feasible timetable, or that there is none. Definitions alone.
+use mathlib.Core.Path.{_≡_}
+use mathlib.Core.List.{List}
+use mathlib.Core.Bool.{Bool, true, false}
+use Prim.Native.Nat.{ℕ}
+use lib.ListN.{length}
+use Rattle.network.specs.Network.{Network, events}
+use Rattle.network.specs.PublicRule.{Feasible, Smallest}
+use Rattle.network.specs.Table.{WellFormed}
+
+-- of a network, the row as it is left, and the answer
+pub data Looked (N : Network) (t : List ℕ) : Bool → Type 0 where
+  found : Smallest N t → Looked N t true
+  nothing : ((u : List ℕ) → Feasible N u → ⊥) → Looked N t false
+
+-- what it asks: a well-formed network, and a row with an entry for each event
+pub record Asked (N : Network) (t : List ℕ) : Type 0 where
+  pub well : WellFormed N
+  pub long : length t ≡ events N

@@ -1,0 +1,256 @@
+//! The archive's way of working in safe Rust, for the benchmark to measure it against.
+
+use crate::network::{Answer, Network};
+use std::cmp::Ordering;
+
+fn common_divisor(mut a: u32, mut b: u32) -> u32 {
+    while b != 0 {
+        (a, b) = (b, a % b);
+    }
+    a
+}
+
+fn arc_period(network: &Network, arc: usize) -> u32 {
+    let tail = network.tail[arc] as usize;
+    let head = network.head[arc] as usize;
+    common_divisor(network.periods[tail], network.periods[head])
+}
+
+fn slack(network: &Network, arc: usize, times: &[u32]) -> u32 {
+    let tail = times[network.tail[arc] as usize] as i32;
+    let head = times[network.head[arc] as usize] as i32;
+    let g = arc_period(network, arc) as i32;
+    (head - tail - network.lower[arc]).rem_euclid(g) as u32
+}
+
+fn met(network: &Network, arc: usize, times: &[u32]) -> bool {
+    slack(network, arc, times) as i32 <= network.upper[arc] - network.lower[arc]
+}
+
+/// Does the rule of this code, one of 4 to 8, apply to the arc?
+fn is_bad(network: &Network, code: u32, arc: usize) -> bool {
+    let n = network.periods.len();
+    match code {
+        4 => network.tail[arc] as usize >= n || network.head[arc] as usize >= n,
+        5 => network.tail[arc] == network.head[arc],
+        6 => network.lower[arc] < -7200 || network.lower[arc] > 7200,
+        7 => {
+            let width = i64::from(network.upper[arc]) - i64::from(network.lower[arc]);
+            width < 0 || width >= i64::from(arc_period(network, arc))
+        }
+        _ => network.weight[arc] > 10_000,
+    }
+}
+
+fn refusal(network: &Network) -> Option<Answer> {
+    let (n, m) = (network.periods.len(), network.tail.len());
+    if n == 0 || n > 64 {
+        return Some(Answer::refusal(1, 0));
+    }
+    let is_bad_period = |&period: &u32| period == 0 || period > 3600;
+    if let Some(event) = network.periods.iter().position(is_bad_period) {
+        return Some(Answer::refusal(2, event));
+    }
+    let even = network.head.len() == m
+        && network.lower.len() == m
+        && network.upper.len() == m
+        && network.weight.len() == m;
+    if !even || m > 256 {
+        return Some(Answer::refusal(3, 0));
+    }
+    for code in 4..=8 {
+        if let Some(arc) = (0..m).find(|&arc| is_bad(network, code, arc)) {
+            return Some(Answer::refusal(code, arc));
+        }
+    }
+    None
+}
+
+fn late_time(network: &Network, times: &[u32]) -> Option<Answer> {
+    let late = (0..times.len()).find(|&event| times[event] >= network.periods[event]);
+    late.map(|event| Answer::refusal(14, event))
+}
+
+fn cost(network: &Network, times: &[u32]) -> u64 {
+    let weighed = |arc: usize| u64::from(network.weight[arc] * slack(network, arc, times));
+    (0..network.tail.len()).map(weighed).sum()
+}
+
+pub fn check(network: &Network, times: &[u32]) -> Answer {
+    if let Some(answer) = refusal(network) {
+        return answer;
+    }
+    if times.len() != network.periods.len() {
+        return Answer::refusal(9, 0);
+    }
+    if let Some(answer) = late_time(network, times) {
+        return answer;
+    }
+    if let Some(arc) = (0..network.tail.len()).find(|&arc| !met(network, arc, times)) {
+        return Answer::refusal(15, arc);
+    }
+    Answer::success(cost(network, times))
+}
+
+pub fn measure(network: &Network, times: &[u32], tensions: &mut [i32]) -> Answer {
+    if let Some(answer) = refusal(network) {
+        return answer;
+    }
+    if times.len() != network.periods.len() || tensions.len() < network.tail.len() {
+        return Answer::refusal(9, 0);
+    }
+    if let Some(answer) = late_time(network, times) {
+        return answer;
+    }
+    write_tensions(network, times, tensions)
+}
+
+/// Writes the tensions and answers with the cost, in one pass.
+fn write_tensions(network: &Network, times: &[u32], tensions: &mut [i32]) -> Answer {
+    let mut cost = 0;
+    let written = &mut tensions[..network.tail.len()];
+    for (arc, entry) in written.iter_mut().enumerate() {
+        let slack = slack(network, arc, times);
+        *entry = network.lower[arc] + slack as i32;
+        cost += u64::from(network.weight[arc]) * u64::from(slack);
+    }
+    Answer::success(cost)
+}
+
+pub fn solve(network: &Network, times: &mut [u32], tensions: &mut [i32]) -> Answer {
+    let n = network.periods.len();
+    if let Some(answer) = refusal(network) {
+        return answer;
+    }
+    if times.len() < n || tensions.len() < network.tail.len() {
+        return Answer::refusal(9, 0);
+    }
+    let mut found = [0; 64];
+    if !smallest(network, &mut found[..n]) {
+        return Answer::refusal(10, 0);
+    }
+    times[..n].copy_from_slice(&found[..n]);
+    write_tensions(network, &found[..n], tensions)
+}
+
+/// What the search asks of the arcs again and again, worked out once: less the lower bound by the
+/// arc's period, the slack up to which the arc is met, and its period.
+struct Reduced<'a> {
+    network: &'a Network<'a>,
+    offsets: [u32; 256],
+    widths: [u32; 256],
+    gaps: [u32; 256],
+}
+
+fn smallest(network: &Network, times: &mut [u32]) -> bool {
+    let mut reduced = Reduced {
+        network,
+        offsets: [0; 256],
+        widths: [0; 256],
+        gaps: [0; 256],
+    };
+    for arc in 0..network.tail.len() {
+        let gap = arc_period(network, arc);
+        reduced.gaps[arc] = gap;
+        reduced.offsets[arc] = (-network.lower[arc]).rem_euclid(gap as i32) as u32;
+        reduced.widths[arc] = (network.upper[arc] - network.lower[arc]) as u32;
+    }
+    place(&reduced, times, 0)
+}
+
+/// Places the event and all later ones; false if that can't be.
+fn place(reduced: &Reduced, times: &mut [u32], event: usize) -> bool {
+    if event == times.len() {
+        return true;
+    }
+    let mut from = 0;
+    while next_time(reduced, times, event, from) {
+        if place(reduced, times, event + 1) {
+            return true;
+        }
+        from = times[event] + 1;
+    }
+    false
+}
+
+/// Sets the event to its first time from `from` on that fits; false if there is none.
+fn next_time(reduced: &Reduced, times: &mut [u32], event: usize, from: u32) -> bool {
+    for time in from..reduced.network.periods[event] {
+        times[event] = time;
+        if fits(reduced, times, event) {
+            return true;
+        }
+    }
+    false
+}
+
+/// Does the event's time meet every arc between it and an earlier event?
+fn fits(reduced: &Reduced, times: &[u32], event: usize) -> bool {
+    (0..reduced.network.tail.len()).all(|arc| {
+        let tail = reduced.network.tail[arc] as usize;
+        let head = reduced.network.head[arc] as usize;
+        if tail > event || head > event || (tail < event && head < event) {
+            return true;
+        }
+        let gap = reduced.gaps[arc];
+        let slack = (times[head] + (3600 * gap - times[tail]) + reduced.offsets[arc]) % gap;
+        slack <= reduced.widths[arc]
+    })
+}
+
+pub fn rebuild(network: &Network, tensions: &[i32], times: &mut [u32]) -> Answer {
+    let (n, m) = (network.periods.len(), network.tail.len());
+    match refusal(network) {
+        Some(answer) if answer.code <= 3 => return answer,
+        _ if tensions.len() != m => return Answer::refusal(3, 0),
+        Some(answer) => return answer,
+        None => (),
+    }
+    if times.len() < n {
+        return Answer::refusal(9, 0);
+    }
+    let is_other = |&period: &u32| period != network.periods[0];
+    if let Some(event) = network.periods.iter().position(is_other) {
+        return Answer::refusal(11, event);
+    }
+    let bounds = |arc: usize| network.lower[arc]..=network.upper[arc];
+    if let Some(arc) = (0..m).find(|&arc| !bounds(arc).contains(&tensions[arc])) {
+        return Answer::refusal(12, arc);
+    }
+    let mut found = [0; 64];
+    if let Some(arc) = join_all(network, tensions, &mut found[..n]) {
+        return Answer::refusal(13, arc);
+    }
+    times[..n].copy_from_slice(&found[..n]);
+    Answer::success(cost(network, &found[..n]))
+}
+
+/// Joins the parts arc by arc, each with its lowest event at 0; the first arc that does not fit.
+fn join_all(network: &Network, tensions: &[i32], times: &mut [u32]) -> Option<usize> {
+    let period = network.periods[0];
+    let mut parts: [usize; 64] = std::array::from_fn(|event| event);
+    for (arc, tension) in tensions.iter().enumerate() {
+        let (tail, head) = (network.tail[arc] as usize, network.head[arc] as usize);
+        let (near, far) = (parts[tail], parts[head]);
+        let tension = tension.rem_euclid(period as i32) as u32;
+        // What the head's part must move by for the arc to have its tension.
+        let gap = (times[tail] + tension + period - times[head]) % period;
+        match near.cmp(&far) {
+            Ordering::Less => join(&mut parts, times, (far, near), gap, period),
+            Ordering::Greater => join(&mut parts, times, (near, far), period - gap, period),
+            Ordering::Equal if gap != 0 => return Some(arc),
+            Ordering::Equal => (),
+        }
+    }
+    None
+}
+
+/// Moves the first part by the gap and makes it belong to the second.
+fn join(parts: &mut [usize], times: &mut [u32], (from, to): (usize, usize), gap: u32, period: u32) {
+    for (part, time) in parts.iter_mut().zip(times) {
+        if *part == from {
+            *part = to;
+            *time = (*time + gap) % period;
+        }
+    }
+}

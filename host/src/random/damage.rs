@@ -1,0 +1,228 @@
+//! Damages: each makes a right case wrong at a random place, so that a known code applies.
+
+use super::Random;
+use crate::compare::Case;
+use crate::network::{Arc, Rows};
+use crate::reference::{arc_period, remainder};
+
+/// The code that the damage brings about, and what it does to the case.
+pub type Damage = (u32, fn(&mut Random, &mut Case));
+
+/// The damages to a network, one for each of codes 1 to 8.
+pub const NETWORK: [Damage; 8] = [
+    (1, event_count),
+    (2, period),
+    (3, arc_rows),
+    (4, end),
+    (5, equal_ends),
+    (6, lower),
+    (7, width),
+    (8, weight),
+];
+
+/// Does all the damages, the highest code first, so that the lowest surely stands in the end.
+pub fn apply(random: &mut Random, case: &mut Case, damages: &[Damage]) {
+    let mut falling = damages.to_vec();
+    falling.sort_by_key(|&(code, _)| std::cmp::Reverse(code));
+    for (_, damage) in falling {
+        damage(random, case);
+    }
+}
+
+fn event_count(random: &mut Random, case: &mut Case) {
+    let n = random.pick(&[0, 65, 66, 300]);
+    case.rows.periods.resize(n, 60);
+}
+
+fn period(random: &mut Random, case: &mut Case) {
+    let event = random.below(case.rows.periods.len());
+    case.rows.periods[event] = random.pick(&[0, 3601, 1 << 31, u32::MAX]);
+}
+
+fn arc_rows(random: &mut Random, case: &mut Case) {
+    let rows = &mut case.rows;
+    if random.one_in(4) {
+        lengthen_all(rows, 257 + random.below(3));
+    }
+    // A second damage of this kind might undo the first.
+    while level(rows) {
+        match random.below(5) {
+            0 => change_length(random, &mut rows.tail),
+            1 => change_length(random, &mut rows.head),
+            2 => change_length(random, &mut rows.lower),
+            3 => change_length(random, &mut rows.upper),
+            _ => change_length(random, &mut rows.weight),
+        }
+    }
+}
+
+fn lengthen_all(rows: &mut Rows, m: usize) {
+    rows.tail.resize(m, 0);
+    rows.head.resize(m, 1);
+    rows.lower.resize(m, 0);
+    rows.upper.resize(m, 0);
+    rows.weight.resize(m, 0);
+}
+
+/// Is the number of arcs in order?
+fn level(rows: &Rows) -> bool {
+    let m = rows.tail.len();
+    let others = [
+        rows.head.len(),
+        rows.lower.len(),
+        rows.upper.len(),
+        rows.weight.len(),
+    ];
+    m <= 256 && others == [m; 4]
+}
+
+fn change_length<T: Clone + Default>(random: &mut Random, row: &mut Vec<T>) {
+    match random.below(5) {
+        0 => row.clear(),
+        1 | 2 => row.push(T::default()),
+        _ => row.truncate(row.len().saturating_sub(1)),
+    }
+}
+
+fn end(random: &mut Random, case: &mut Case) {
+    let n = case.rows.periods.len() as u32;
+    let arc = random.below(case.rows.tail.len());
+    let beyond = random.pick(&[n, n + 1, 1 << 31, u32::MAX]);
+    if random.one_in(2) {
+        case.rows.tail[arc] = beyond;
+    } else {
+        case.rows.head[arc] = beyond;
+    }
+}
+
+fn equal_ends(random: &mut Random, case: &mut Case) {
+    let arc = random.below(case.rows.tail.len());
+    if random.one_in(2) {
+        case.rows.tail[arc] = case.rows.head[arc];
+    } else {
+        case.rows.head[arc] = case.rows.tail[arc];
+    }
+}
+
+fn lower(random: &mut Random, case: &mut Case) {
+    let arc = random.below(case.rows.lower.len());
+    case.rows.lower[arc] = random.pick(&[-7201, 7201, i32::MIN, i32::MAX]);
+}
+
+fn width(random: &mut Random, case: &mut Case) {
+    let arc = random.below(case.rows.upper.len());
+    let lower = case.rows.lower[arc];
+    let g = arc_period(&case.rows.network(), arc) as i32;
+    case.rows.upper[arc] = random.pick(&[lower - 1, lower + g, i32::MIN, i32::MAX]);
+}
+
+fn weight(random: &mut Random, case: &mut Case) {
+    let arc = random.below(case.rows.weight.len());
+    case.rows.weight[arc] = random.pick(&[10_001, 1 << 31, u32::MAX]);
+}
+
+/// For a call that reads the times: not exactly one for each event.
+pub const READ_TIMES: Damage = (9, |random, case| {
+    while case.times.len() == case.rows.periods.len() {
+        change_length(random, &mut case.times);
+    }
+});
+
+/// For a call that writes the tensions: fewer entries than arcs.
+pub const SHORT_TENSIONS: Damage = (9, |random, case| {
+    let m = case.rows.tail.len();
+    case.tensions.truncate(random.below(m));
+});
+
+/// For a call that reads the times.
+pub const LATE_TIME: Damage = (14, |random, case| {
+    let event = random.below(case.times.len());
+    let period = case.rows.periods[event];
+    case.times[event] = random.pick(&[period, period + 1, 1 << 31, u32::MAX]);
+});
+
+/// For check: an arc of period 2 or more gets bounds that its ends' times don't meet.
+pub const UNMET_ARC: Damage = (15, |random, case| {
+    let arc = random.below(case.rows.tail.len());
+    let g = arc_period(&case.rows.network(), arc) as usize;
+    let slack = 1 + random.below(g - 1);
+    let tail = case.times[case.rows.tail[arc] as usize] as i32;
+    let head = case.times[case.rows.head[arc] as usize] as i32;
+    case.rows.lower[arc] = head - tail - slack as i32;
+    case.rows.upper[arc] = case.rows.lower[arc] + random.below(slack) as i32;
+});
+
+/// For a call that writes the times: fewer entries than events.
+pub const SHORT_TIMES: Damage = (9, |random, case| {
+    let n = case.rows.periods.len();
+    case.times.truncate(random.below(n));
+});
+
+/// For solve: two parallel arcs of period 2 or more that no times meet both.
+pub const INFEASIBLE: Damage = (10, |random, case| {
+    let model = random.below(case.rows.tail.len());
+    let (tail, head) = (case.rows.tail[model], case.rows.head[model]);
+    let lower = case.rows.lower[model].min(7199);
+    for bound in [lower, lower + 1] {
+        let place = random.below(case.rows.tail.len() + 1);
+        let arc = Arc {
+            tail,
+            head,
+            lower: bound,
+            upper: bound,
+            weight: 1,
+        };
+        case.rows.insert(place, arc);
+        case.tensions.push(0);
+    }
+});
+
+/// For rebuild: the tension row counts as an arc row.
+pub const TENSION_ROW: Damage = (3, |random, case| {
+    while case.tensions.len() == case.rows.tail.len() {
+        change_length(random, &mut case.tensions);
+    }
+});
+
+/// For rebuild. Uppers are cut where the arc's period has become shorter, else code 7 would apply.
+pub const OTHER_PERIOD: Damage = (11, |random, case| {
+    let rows = &mut case.rows;
+    let event = random.below(rows.periods.len());
+    let mut period = rows.periods[0];
+    while rows.periods.contains(&period) {
+        period = random.between(1, 3600) as u32;
+    }
+    rows.periods[event] = period;
+    for arc in 0..rows.tail.len() {
+        let g = arc_period(&rows.network(), arc) as i32;
+        rows.upper[arc] = rows.upper[arc].min(rows.lower[arc] + g - 1);
+    }
+});
+
+/// For rebuild.
+pub const TENSION_OUTSIDE: Damage = (12, |random, case| {
+    let arc = random.below(case.tensions.len());
+    let below = case.rows.lower[arc] - 1;
+    let above = case.rows.upper[arc] + 1;
+    case.tensions[arc] = random.pick(&[below, above, i32::MIN, i32::MAX]);
+});
+
+/// For rebuild: an arc parallel to another, of period 2 or more, with a tension that disagrees.
+pub const OPEN_LOOP: Damage = (13, |random, case| {
+    let model = random.below(case.rows.tail.len());
+    let period = case.rows.periods[0];
+    let lower = case.rows.lower[model];
+    let other = case.tensions[model] + random.between(1, i64::from(period) - 1) as i32;
+    let tension = lower + remainder(i64::from(other - lower), period) as i32;
+    let greatest = lower + period as i32 - 1;
+    let arc = Arc {
+        tail: case.rows.tail[model],
+        head: case.rows.head[model],
+        lower,
+        upper: random.pick(&[tension, greatest]),
+        weight: 1,
+    };
+    let place = random.below(case.rows.tail.len() + 1);
+    case.rows.insert(place, arc);
+    case.tensions.insert(place, tension);
+});

@@ -1,0 +1,160 @@
+//! Well-formed random networks, each with a timetable.
+
+use super::Random;
+use crate::compare::Case;
+use crate::network::{Arc, Rows};
+use crate::reference::{common_divisor, remainder};
+
+/// Every arc is met by the timetable.
+pub fn planted(random: &mut Random) -> Case {
+    let (n, m) = size(random);
+    let periods = periods(random, n);
+    build(random, periods, m, true)
+}
+
+/// Bounds are drawn without regard to the timetable.
+pub fn unplanted(random: &mut Random) -> Case {
+    let (n, m) = size(random);
+    let periods = periods(random, n);
+    build(random, periods, m, false)
+}
+
+/// Planted, with two events and two arcs at least and a divisor of 2 or more common to all periods,
+/// so that every damage finds a place; and with room for further arcs.
+pub fn linked(random: &mut Random) -> Case {
+    let n = random.between(2, 8) as usize;
+    let m = random.between(2, 12) as usize;
+    let periods = match random.below(2) {
+        0 => vec![random.between(2, 3600) as u32; n],
+        _ => multiples(random, n, 2),
+    };
+    build(random, periods, m, true)
+}
+
+/// Many arcs of the greatest weight with long slacks: the cost takes more than 32 bits.
+pub fn heavy(random: &mut Random) -> Case {
+    let n = random.between(2, 64) as usize;
+    let mut case = build(random, vec![3600; n], 256, true);
+    let rows = &mut case.rows;
+    let least = random.pick(&[1800, 3599]);
+    for arc in 0..256 {
+        let tail = case.times[rows.tail[arc] as usize] as i32;
+        let head = case.times[rows.head[arc] as usize] as i32;
+        rows.lower[arc] = head - tail - random.between(least, 3599) as i32;
+        rows.upper[arc] = rows.lower[arc] + 3599;
+        rows.weight[arc] = 10_000;
+    }
+    case
+}
+
+pub(super) fn size(random: &mut Random) -> (usize, usize) {
+    let (n, m) = match random.below(40) {
+        0 => return (64, 256),
+        1..=4 => (64, 256),
+        5..=12 => (16, 40),
+        _ => (6, 10),
+    };
+    let n = 1 + random.below(n);
+    // One event has no other to be joined to.
+    let m = if n == 1 { 0 } else { random.below(m + 1) };
+    (n, m)
+}
+
+fn periods(random: &mut Random, n: usize) -> Vec<u32> {
+    let most = match random.below(3) {
+        0 => 6,
+        1 => 3600,
+        _ => return multiples(random, n, 1),
+    };
+    (0..n).map(|_| random.between(1, most) as u32).collect()
+}
+
+/// Multiples of one base, so that arc periods are often neither 1 nor a whole period.
+fn multiples(random: &mut Random, n: usize, least: i64) -> Vec<u32> {
+    let base = random.between(least, 600);
+    let most = random.pick(&[1, 2, 6]);
+    (0..n)
+        .map(|_| (base * random.between(1, most)) as u32)
+        .collect()
+}
+
+pub(super) fn build(random: &mut Random, periods: Vec<u32>, m: usize, met: bool) -> Case {
+    let times: Vec<u32> = periods
+        .iter()
+        .map(|&period| random.below(period as usize) as u32)
+        .collect();
+    let mut rows = Rows::new(&periods, &[]);
+    for _ in 0..m {
+        let arc = arc(random, &rows, &times, met);
+        rows.push(arc);
+    }
+    Case {
+        tensions: kept_tensions(random, m),
+        rows,
+        times,
+    }
+}
+
+fn arc(random: &mut Random, rows: &Rows, times: &[u32], met: bool) -> Arc {
+    let (tail, head) = ends(random, rows);
+    let period = |event: u32| rows.periods[event as usize];
+    let time = |event: u32| i64::from(times[event as usize]);
+    let g = common_divisor(period(tail), period(head));
+    let lower = lower(random, i64::from(g));
+    let slack = remainder(time(head) - time(tail) - lower, g);
+    let width = width(random, if met { slack } else { 0 }, i64::from(g));
+    Arc {
+        tail,
+        head,
+        lower: lower as i32,
+        upper: (lower + width) as i32,
+        weight: weight(random),
+    }
+}
+
+/// Two different events; now and then those of an earlier arc, for parallel arcs and short loops.
+fn ends(random: &mut Random, rows: &Rows) -> (u32, u32) {
+    let (n, m) = (rows.periods.len(), rows.tail.len());
+    if m > 0 && random.one_in(5) {
+        let arc = random.below(m);
+        return random.pick(&[
+            (rows.tail[arc], rows.head[arc]),
+            (rows.head[arc], rows.tail[arc]),
+        ]);
+    }
+    let tail = random.below(n);
+    let head = (tail + 1 + random.below(n - 1)) % n;
+    (tail as u32, head as u32)
+}
+
+fn lower(random: &mut Random, g: i64) -> i64 {
+    match random.below(4) {
+        0 => random.between(0, g - 1),
+        1 => random.between(-g, -1),
+        2 => random.between(-7200, 7200),
+        _ => random.pick(&[-7200, -1, 0, 1, 7200]),
+    }
+}
+
+/// Upper less lower, from `least` to the arc's period less 1.
+fn width(random: &mut Random, least: i64, g: i64) -> i64 {
+    match random.below(4) {
+        0 => least,
+        1 => g - 1,
+        _ => random.between(least, g - 1),
+    }
+}
+
+fn weight(random: &mut Random) -> u32 {
+    match random.below(4) {
+        0 => 0,
+        1 => 10_000,
+        _ => random.between(0, 10_000) as u32,
+    }
+}
+
+/// A tension row to be written, up to two entries too long, filled with what no call ever writes.
+fn kept_tensions(random: &mut Random, m: usize) -> Vec<i32> {
+    let length = m + random.below(3);
+    (0..length as i32).map(|k| 1_000_000_000 + k).collect()
+}

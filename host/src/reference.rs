@@ -1,0 +1,16 @@
+//! The calls as the paper defines them, written from the paper alone: wide numbers, one rule after
+//! the other, no thought of speed. It shares no code with the archive.
+
+mod check;
+mod judge;
+mod measure;
+mod potentials;
+mod rebuild;
+mod rule;
+mod solve;
+
+pub use check::check;
+pub use measure::measure;
+pub use rebuild::{rebuild, rebuild_by_trying};
+pub use rule::{arc_period, common_divisor, met, remainder, slack, tension};
+pub use solve::{finishes_within, smallest, smallest_by_skipping, solve, solve_by_skipping};

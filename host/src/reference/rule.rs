@@ -1,0 +1,46 @@
+//! The public rule: arc period, remainder, slack, tension, met, cost.
+
+use crate::network::Network;
+
+/// The greatest number that divides both, by Euclid's steps; both are 1 or more.
+pub fn common_divisor(a: u32, b: u32) -> u32 {
+    if b == 0 {
+        a
+    } else {
+        common_divisor(b, a % b)
+    }
+}
+
+/// What is left from 0 to `by` less 1, also of a negative number.
+pub fn remainder(number: i64, by: u32) -> i64 {
+    number.rem_euclid(i64::from(by))
+}
+
+/// The arc's g: the greatest common divisor of the periods at its two ends.
+pub fn arc_period(network: &Network, arc: usize) -> u32 {
+    let tail = network.tail[arc] as usize;
+    let head = network.head[arc] as usize;
+    common_divisor(network.periods[tail], network.periods[head])
+}
+
+pub fn slack(network: &Network, arc: usize, times: &[u32]) -> i64 {
+    let tail = i64::from(times[network.tail[arc] as usize]);
+    let head = i64::from(times[network.head[arc] as usize]);
+    let lower = i64::from(network.lower[arc]);
+    remainder(head - tail - lower, arc_period(network, arc))
+}
+
+pub fn tension(network: &Network, arc: usize, times: &[u32]) -> i64 {
+    i64::from(network.lower[arc]) + slack(network, arc, times)
+}
+
+pub fn met(network: &Network, arc: usize, times: &[u32]) -> bool {
+    tension(network, arc, times) <= i64::from(network.upper[arc])
+}
+
+/// The sum of weight times slack over all arcs.
+pub fn cost(network: &Network, times: &[u32]) -> u64 {
+    (0..network.tail.len())
+        .map(|arc| u64::from(network.weight[arc]) * slack(network, arc, times) as u64)
+        .sum()
+}

@@ -1,0 +1,82 @@
+//! The benchmark's baseline against the reference, so that it measures work that is right.
+
+use rubblewaltz_host::compare::{Call, CHECK, MEASURE, REBUILD, SOLVE};
+use rubblewaltz_host::random::damage::{
+    Damage, INFEASIBLE, LATE_TIME, NETWORK, OPEN_LOOP, OTHER_PERIOD, READ_TIMES, SHORT_TENSIONS,
+    SHORT_TIMES, TENSION_OUTSIDE, TENSION_ROW, UNMET_ARC,
+};
+use rubblewaltz_host::random::{
+    knotted, linked, small, solvable, unplanted, vary_tensions, with_tensions, Random,
+};
+use rubblewaltz_host::tally::Tally;
+use rubblewaltz_host::{baseline, trials};
+
+const BASELINE_CHECK: Call = Call {
+    name: "baseline check",
+    tried: |network, times, _| baseline::check(network, times),
+    ..CHECK
+};
+
+const BASELINE_MEASURE: Call = Call {
+    name: "baseline measure",
+    tried: |network, times, tensions| baseline::measure(network, times, tensions),
+    ..MEASURE
+};
+
+const BASELINE_SOLVE: Call = Call {
+    name: "baseline solve",
+    tried: baseline::solve,
+    ..SOLVE
+};
+
+const BASELINE_REBUILD: Call = Call {
+    name: "baseline rebuild",
+    tried: |network, times, tensions| baseline::rebuild(network, tensions, times),
+    ..REBUILD
+};
+
+fn with_network(own: &[Damage]) -> Vec<Damage> {
+    [&NETWORK[..], own].concat()
+}
+
+#[test]
+fn damaged_cases() {
+    let check = with_network(&[READ_TIMES, LATE_TIME, UNMET_ARC]);
+    let codes = [1, 2, 3, 4, 5, 6, 7, 8, 9, 14, 15];
+    trials::bunches(&BASELINE_CHECK, &check, linked, 10_000).require(100, &codes);
+    let measure = with_network(&[READ_TIMES, SHORT_TENSIONS, LATE_TIME]);
+    trials::bunches(&BASELINE_MEASURE, &measure, linked, 10_000).require(100, &codes[..10]);
+    let solve = with_network(&[SHORT_TIMES, SHORT_TENSIONS, INFEASIBLE]);
+    let codes = [1, 2, 3, 4, 5, 6, 7, 8, 9, 10];
+    trials::bunches(&BASELINE_SOLVE, &solve, solvable, 10_000).require(100, &codes);
+    let rebuild = [
+        TENSION_ROW,
+        SHORT_TIMES,
+        OTHER_PERIOD,
+        TENSION_OUTSIDE,
+        OPEN_LOOP,
+    ];
+    let codes = [1, 2, 3, 4, 5, 6, 7, 8, 9, 11, 12, 13];
+    let rebuild = with_network(&rebuild);
+    trials::bunches(&BASELINE_REBUILD, &rebuild, knotted, 10_000).require(100, &codes);
+}
+
+#[test]
+fn right_cases() {
+    let mut random = Random::new(41);
+    let mut scans = Tally::new("baseline check and measure");
+    let mut searches = Tally::new("baseline solve");
+    let mut loops = Tally::new("baseline rebuild");
+    for _ in 0..5000 {
+        let case = unplanted(&mut random);
+        scans.add(BASELINE_CHECK.compare(&case).0);
+        scans.add(BASELINE_MEASURE.compare(&case).0);
+        searches.add(BASELINE_SOLVE.compare(&small(&mut random)).0);
+        let mut case = with_tensions(&mut random);
+        vary_tensions(&mut random, &mut case);
+        loops.add(BASELINE_REBUILD.compare(&case).0);
+    }
+    scans.require(100, &[0, 15]);
+    searches.require(100, &[0, 10]);
+    loops.require(100, &[0, 12, 13]);
+}

@@ -1,0 +1,73 @@
+//! solve on the benchmark networks.
+
+use rubblewaltz_host::compare::Case;
+use rubblewaltz_host::files::{self, Known};
+use rubblewaltz_host::{baseline, reference, solve, Answer, Network};
+
+/// Those on which a plain search is soon through.
+const FINISHED: [&str; 15] = [
+    "rb60-8-line-1",
+    "rmix-8-line-1",
+    "rp60-8-line-1",
+    "rs3600-8-line-1",
+    "rsb3600-8-line-1",
+    "ru60-8-line-1",
+    "xm-8-1",
+    "rmix-16-line-1",
+    "rp60-16-line-1",
+    "xm-16-1",
+    "rf60-16-line-1",
+    "rmix-32-line-1",
+    "rp60-32-line-1",
+    "rq60-32-line-1",
+    "rp60-64-line-1",
+];
+
+/// What solve must answer and leave in rows of the network's lengths.
+fn expected(known: &Known) -> (Answer, Case) {
+    let lent = unsolved(&known.name);
+    let Some(times) = &known.times else {
+        return (Answer::refusal(10, 0), lent);
+    };
+    let mut tensions = lent.tensions;
+    let answer = reference::measure(&lent.rows.network(), times, &mut tensions);
+    let left = Case {
+        times: times.clone(),
+        tensions,
+        rows: lent.rows,
+    };
+    (answer, left)
+}
+
+fn unsolved(name: &str) -> Case {
+    let rows = files::network(name);
+    Case {
+        times: vec![9_999_999; rows.periods.len()],
+        tensions: vec![9_999_999; rows.tail.len()],
+        rows,
+    }
+}
+
+type Solve = fn(&Network, &mut [u32], &mut [i32]) -> Answer;
+
+fn assert_solves(name: &str, solve: Solve) {
+    let known = files::answers();
+    let names: Vec<&str> = known.iter().map(|known| known.name.as_str()).collect();
+    assert_eq!(names, FINISHED);
+    for known in known {
+        let mut case = unsolved(&known.name);
+        let network = case.rows.network();
+        let answer = solve(&network, &mut case.times, &mut case.tensions);
+        assert_eq!((answer, case), expected(&known), "{name}: {}", known.name);
+    }
+}
+
+#[test]
+fn answers_are_the_known_ones() {
+    assert_solves("archive", solve);
+}
+
+#[test]
+fn answers_of_the_baseline_are_too() {
+    assert_solves("baseline", baseline::solve);
+}

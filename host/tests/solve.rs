@@ -1,0 +1,101 @@
+//! solve against the reference.
+
+use rubblewaltz_host::compare::{Case, SOLVE, SOLVE_BY_SKIPPING};
+use rubblewaltz_host::random::damage::{Damage, INFEASIBLE, NETWORK, SHORT_TENSIONS, SHORT_TIMES};
+use rubblewaltz_host::random::{
+    edges, heavy, planted, small, solvable, unplanted, unsolved, Random,
+};
+use rubblewaltz_host::reference::finishes_within;
+use rubblewaltz_host::tally::Tally;
+use rubblewaltz_host::{check, measure, trials, Answer};
+
+const CODES: [u32; 10] = [1, 2, 3, 4, 5, 6, 7, 8, 9, 10];
+
+/// A network is left out where the reference's search is not through after so many steps.
+const STEPS: u64 = 500;
+
+fn damages() -> Vec<Damage> {
+    [&NETWORK[..], &[SHORT_TIMES, SHORT_TENSIONS, INFEASIBLE]].concat()
+}
+
+/// The archive's own check and measure agree with what its solve has left.
+fn assert_accepted(answer: Answer, left: &Case) {
+    let network = left.rows.network();
+    let (n, m) = (network.periods.len(), network.tail.len());
+    let times = &left.times[..n];
+    assert_eq!(check(&network, times), answer, "{left:?}");
+    let mut tensions = vec![0; m];
+    assert_eq!(measure(&network, times, &mut tensions), answer, "{left:?}");
+    assert_eq!(tensions, left.tensions[..m], "{left:?}");
+}
+
+#[test]
+fn small_networks_by_trying_all_timetables() {
+    let mut random = Random::new(31);
+    let mut tally = Tally::new("solve, small networks");
+    for _ in 0..50_000 {
+        let (answer, left) = SOLVE.compare(&small(&mut random));
+        if answer.code == 0 {
+            assert_accepted(answer, &left);
+        }
+        tally.add(answer);
+    }
+    tally.require(5000, &[0, 10]);
+}
+
+/// Up to 64 events, 256 arcs and all periods.
+#[test]
+fn larger_networks() {
+    let mut random = Random::new(32);
+    let mut tally = Tally::new("solve, larger networks");
+    for round in 0..6000 {
+        let make = if round % 3 == 0 { planted } else { unplanted };
+        let case = make(&mut random);
+        let case = unsolved(&mut random, case);
+        if finishes_within(&case.rows.network(), STEPS) {
+            let (answer, left) = SOLVE_BY_SKIPPING.compare(&case);
+            if answer.code == 0 {
+                assert_accepted(answer, &left);
+            }
+            tally.add(answer);
+        }
+    }
+    tally.require(100, &[0, 10]);
+}
+
+#[test]
+fn pairs_of_damages() {
+    trials::pairs(&SOLVE_BY_SKIPPING, &damages(), solvable, 100).require(100, &CODES);
+}
+
+#[test]
+fn bunches_of_damages() {
+    trials::bunches(&SOLVE_BY_SKIPPING, &damages(), solvable, 20_000).require(300, &CODES);
+}
+
+#[test]
+fn limits() {
+    let mut random = Random::new(33);
+    let mut tally = Tally::new("solve, limits");
+    for _ in 0..2 {
+        edges::each_case(&solvable(&mut random), |case| {
+            if finishes_within(&case.rows.network(), STEPS) {
+                tally.add(SOLVE_BY_SKIPPING.compare(case).0);
+            }
+        });
+    }
+    tally.require(100, &[&[0], &CODES[..]].concat());
+}
+
+/// Every arc is always met, so the times are all 0 and the slacks of any length.
+#[test]
+fn costs_of_more_than_32_bits() {
+    let mut random = Random::new(34);
+    let mut great = 0;
+    for _ in 0..300 {
+        let case = heavy(&mut random);
+        let (answer, _) = SOLVE_BY_SKIPPING.compare(&unsolved(&mut random, case));
+        great += u32::from(answer.cost > u64::from(u32::MAX));
+    }
+    assert!(great > 100, "{great} of 300");
+}

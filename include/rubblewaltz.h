@@ -1,0 +1,102 @@
+/*
+ * Rubblewaltz: tests and makes periodic timetables over lent rows of numbers.
+ *
+ * A network is six rows, each lent as pointer and length. The length of periods is the number of
+ * events n, the common length of the other five the number of arcs m. Each pointer is to as many
+ * entries as its length says. No row is kept after a call, and no row that is written may overlap
+ * another.
+ *
+ * Each answer has a code, a place and a cost. Code 0 is success, and its place is 0. Under any
+ * other code the cost is 0 and every row keeps its contents. Codes are tried in rising order:
+ *
+ *    1  n is 0 or above 64
+ *    2  a period is 0 or above 3600; place: the first such event
+ *    3  arc rows differ in length, or m is above 256; for rebuild, the tension row counts as an
+ *       arc row
+ *    4  an end is n or more; place: the first such arc, here and below
+ *    5  tail equals head
+ *    6  lower is below -7200 or above 7200
+ *    7  upper is below lower, or upper less lower is the arc's period or more
+ *    8  a weight is above 10000
+ *    9  a row to be written is too short, or a row of times read is not exactly n long
+ *   10  there is no feasible timetable
+ *   11  a period differs from event 0's; place: the first such event
+ *   12  a tension is outside its arc's bounds
+ *   13  no whole numbers as times give arcs 0 up to this one their tensions by the common period
+ *   14  a time is not below its period; place: the first such event
+ *   15  an arc is not met
+ */
+#ifndef RUBBLEWALTZ_H
+#define RUBBLEWALTZ_H
+
+#include <stddef.h>
+#include <stdint.h>
+
+#ifdef __cplusplus
+extern "C" {
+#endif
+
+struct rubblewaltz_answer {
+    uint32_t code;
+    uint32_t place;
+    uint64_t cost;
+};
+
+/* Is the timetable right? Reads n times; writes nothing. Codes 0 with the cost, 1 to 9, 14, 15. */
+struct rubblewaltz_answer rubblewaltz_check(
+    const uint32_t *periods, size_t periods_length,
+    const uint32_t *tail, size_t tail_length,
+    const uint32_t *head, size_t head_length,
+    const int32_t *lower, size_t lower_length,
+    const int32_t *upper, size_t upper_length,
+    const uint32_t *weight, size_t weight_length,
+    const uint32_t *times, size_t times_length);
+
+/*
+ * The tensions and the cost of a timetable, whether its arcs are met or not. Reads n times; writes
+ * tensions 0 to m less 1, the rest of a longer row is kept. Codes 0 with the cost, 1 to 9, 14.
+ */
+struct rubblewaltz_answer rubblewaltz_measure(
+    const uint32_t *periods, size_t periods_length,
+    const uint32_t *tail, size_t tail_length,
+    const uint32_t *head, size_t head_length,
+    const int32_t *lower, size_t lower_length,
+    const int32_t *upper, size_t upper_length,
+    const uint32_t *weight, size_t weight_length,
+    const uint32_t *times, size_t times_length,
+    int32_t *tensions, size_t tensions_length);
+
+/*
+ * The smallest feasible timetable. Writes times 0 to n less 1 and tensions 0 to m less 1, the rest
+ * of longer rows is kept. Codes 0 with the cost, 1 to 10. It has no time limit.
+ */
+struct rubblewaltz_answer rubblewaltz_solve(
+    const uint32_t *periods, size_t periods_length,
+    const uint32_t *tail, size_t tail_length,
+    const uint32_t *head, size_t head_length,
+    const int32_t *lower, size_t lower_length,
+    const int32_t *upper, size_t upper_length,
+    const uint32_t *weight, size_t weight_length,
+    uint32_t *times, size_t times_length,
+    int32_t *tensions, size_t tensions_length);
+
+/*
+ * The timetable of these tensions, with the lowest event of each connected part at 0. Reads m
+ * tensions; writes times 0 to n less 1, the rest of a longer row is kept. Codes 0 with the cost,
+ * 1 to 9, 11 to 13.
+ */
+struct rubblewaltz_answer rubblewaltz_rebuild(
+    const uint32_t *periods, size_t periods_length,
+    const uint32_t *tail, size_t tail_length,
+    const uint32_t *head, size_t head_length,
+    const int32_t *lower, size_t lower_length,
+    const int32_t *upper, size_t upper_length,
+    const uint32_t *weight, size_t weight_length,
+    const int32_t *tensions, size_t tensions_length,
+    uint32_t *times, size_t times_length);
+
+#ifdef __cplusplus
+}
+#endif
+
+#endif
