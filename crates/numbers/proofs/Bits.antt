@@ -12,7 +12,7 @@ use lib.Signed.{mag, nonNeg, ltZ, leZ, quotZ, remZ, mag-rem, _≤ℤ_, _<ℤ_}
 use mir.Syntax.{Width, w32, w64}
 use mir.Val.{Fits, SFits, toZ, ofZ, hbits}
 use mir.ValLaws.{toZ-ofZ, toZ-pos, sfits-le}
-use Rattle.numbers.proofs.Integers.{sfitsℤ, ofSfits, ofSub, leℤ, ltℤ, ltZ-true, ltZ-false, leZ-true, leZ-false}
+use Rattle.numbers.proofs.Integers.{sfitsℤ, ofSfits, ofSub, leℤ, ltℤ, ltZ-true, ltZ-false}
 
 pub record Bits (w : Width) (n : ℕ) (z : ℤ) : Type 0 where
   pub is : toZ w n ≡ z
@@ -94,12 +94,6 @@ lt-yes {y = y} {z = z} p q e = ltℤ y z (ltZ-true y z ((λ i. ltZ (sym (p .is) 
 pub lt-no : {w : Width} {m n : ℕ} {y z : ℤ} → Bits w m y → Bits w n z → ltZ (toZ w m) (toZ w n) ≡ false → z ≤ℤ y
 lt-no {y = y} {z = z} p q e = leℤ z y (ltZ-false y z ((λ i. ltZ (sym (p .is) i) (sym (q .is) i)) ∙ e))
 
-pub le-yes : {w : Width} {m n : ℕ} {y z : ℤ} → Bits w m y → Bits w n z → leZ (toZ w m) (toZ w n) ≡ true → y ≤ℤ z
-le-yes {y = y} {z = z} p q e = leℤ y z (leZ-true y z ((λ i. leZ (sym (p .is) i) (sym (q .is) i)) ∙ e))
-
-pub le-no : {w : Width} {m n : ℕ} {y z : ℤ} → Bits w m y → Bits w n z → leZ (toZ w m) (toZ w n) ≡ false → z <ℤ y
-le-no {y = y} {z = z} p q e = ltℤ z y (leZ-false y z ((λ i. leZ (sym (p .is) i) (sym (q .is) i)) ∙ e))
-
 -- a literal, whose bits compute: `lit refl`
 pub lit : {w : Width} {n : ℕ} {z : ℤ} → toZ w n ≡ z → Bits w n z
 lit e = record { is = e }
@@ -117,10 +111,3 @@ or-yes q e h = ap (λ (b : Bool). b || q) (sym h ∙ e)
 
 pub or-no : {t p u q : Bool} → t ≡ p → t ≡ false → u ≡ q → u ≡ (p || q)
 or-no {q = q} e h k = k ∙ ap (λ (b : Bool). b || q) (sym h ∙ e)
-
--- `==` compares the bits
-pub eq-yes : {w : Width} {m n : ℕ} {y z : ℤ} → Bits w m y → Bits w n z → m ≡ n → y ≡ z
-eq-yes {w} p q e = sym (p .is) ∙ ap (toZ w) e ∙ q .is
-
-pub eq-no : (w : Width) {y z : ℤ} → (ofZ w y ≡ ofZ w z → ⊥) → y ≡ z → ⊥
-eq-no w f e = f (ap (ofZ w) e)

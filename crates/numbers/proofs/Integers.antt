@@ -132,41 +132,5 @@ ofSfits w (negsuc n) f = (omega (arith, f .sfits), f .sfits)
 -- what `omega` takes to read and to prove equations, orders and tests in ℤ
 pub ruleset zed = (eqℤ, ofEq, leℤ, ofLe, ltℤ, ofLt, ltZ-true, ltZ-false, leZ-true, leZ-false)
 
--- ---- the order's laws, by `omega`
-
-pub ≤ℤ-trans : (a b c : ℤ) → a ≤ℤ b → b ≤ℤ c → a ≤ℤ c
-≤ℤ-trans a b c h k = omega (arith, zed)
-
-pub ≤ℤ-antisym : (a b : ℤ) → a ≤ℤ b → b ≤ℤ a → a ≡ b
-≤ℤ-antisym a b h k = omega (arith, zed)
-
-pub +ℤ-mono : (a b c d : ℤ) → a ≤ℤ b → c ≤ℤ d → (a +ℤ c) ≤ℤ (b +ℤ d)
-+ℤ-mono a b c d h k = omega (arith, zed, ofSum a c, ofSum b d)
-
-pub neg-mono : (a b : ℤ) → a ≤ℤ b → negℤ b ≤ℤ negℤ a
-neg-mono a b h = omega (arith, zed, up-neg a, dn-neg a, up-neg b, dn-neg b)
-
 pub sub-add : (a b : ℤ) → b +ℤ (a -ℤ b) ≡ a
 sub-add a b = omega (arith, zed, ofSum b (a -ℤ b), ofSub a b)
-
--- ---- from the order to the test
-
-is-true : (t : Bool) → T t → t ≡ true
-is-true true h = refl
-is-true false h = absurd h
-
-is-false : (t : Bool) → (T t → ⊥) → t ≡ false
-is-false true h = absurd (h tt)
-is-false false h = refl
-
-pub le-leZ : (a b : ℤ) → a ≤ℤ b → leZ a b ≡ true
-le-leZ a b h = is-true (leZ a b) (h .le)
-
-pub lt-ltZ : (a b : ℤ) → a <ℤ b → ltZ a b ≡ true
-lt-ltZ a b h = is-true (ltZ a b) (h .lt)
-
-pub lt-leZ : (a b : ℤ) → b <ℤ a → leZ a b ≡ false
-lt-leZ a b h = is-false (leZ a b) (λ t. absurd (omega (arith, ofLt b a h, ofLe a b (record { le = t }))))
-
-pub le-ltZ : (a b : ℤ) → b ≤ℤ a → ltZ a b ≡ false
-le-ltZ a b h = is-false (ltZ a b) (λ t. absurd (omega (arith, ofLe b a h, ofLt a b (record { lt = t }))))

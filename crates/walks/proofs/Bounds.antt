@@ -1,5 +1,4 @@
--- Numbers within an arc's bounds, which are less than the period apart: where two are congruent they are equal,
--- and so the public rule gives an arc its listed tension exactly if the times are that far apart by the period. Assumes nothing.
+-- The public rule gives an arc a listed tension within its bounds exactly if the times are that far apart by the period. Assumes nothing.
 use mathlib.Core.Path.{_≡_, sym}
 use mathlib.Core.Logic.{_↔_}
 use Prim.Native.Nat.{ℕ, _-_, _<_}
@@ -20,10 +19,6 @@ same-above {T} {lower} {y} {z} a b c d p =
     let z-is : z -ℤ lower ≡ pos s = omega (arith, zed, ofSub z lower) in
     let e : r ≡ s = below-same (omega (arith, zed)) (omega (arith, zed)) (cong-trans (cong-eq T y-is) (cong-trans (cong-sub p (cong-refl T lower)) (cong-eq T z-is))) in
     omega (arith, zed, e, ofSub y lower, ofSub z lower)
-
-pub same-within : {T : ℕ} {lower upper y z : ℤ} → (upper -ℤ lower) <ℤ pos T → lower ≤ℤ y → y ≤ℤ upper → lower ≤ℤ z → z ≤ℤ upper → Cong T y z → y ≡ z
-same-within {lower = lower} {upper} {y} {z} h a b c d p =
-    same-above a (omega (arith, zed, ofSub y lower, ofSub upper lower)) c (omega (arith, zed, ofSub z lower, ofSub upper lower)) p
 
 pub tension-is : {T : ℕ} {lower upper x : ℤ} (from to : ℕ) → 0 < T → (upper -ℤ lower) <ℤ pos T → lower ≤ℤ x → x ≤ℤ upper
     → (lower +ℤ pos (remainder ((pos to -ℤ pos from) -ℤ lower) T) ≡ x) ↔ Cong T x (pos to -ℤ pos from)

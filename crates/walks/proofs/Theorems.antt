@@ -1,4 +1,4 @@
--- Tensions are consistent exactly if they close. The anchored timetable is then there, and is the only one; so is the answer of `place_arcs`.
+-- Tensions are consistent exactly if they close. There is one anchored timetable, and one answer of `place_arcs`.
 -- Assumes nothing.
 use mathlib.Core.Path.{_≡_, refl, sym, _∙_, subst}
 use mathlib.Core.Logic.{_↔_}
@@ -14,7 +14,7 @@ use Rattle.numbers.proofs.Integers.{zed, ofSub}
 use Rattle.numbers.proofs.Congruence.{cong-eq, cong-sym, cong-trans}
 use Rattle.numbers.proofs.Remainders.{below-same}
 use Rattle.walks.specs.Walk.{Graph, graphOf, Between, Closed}
-use Rattle.numbers.specs.Row.{at, atℤ}
+use Rattle.numbers.specs.Row.{atℤ}
 use Rattle.walks.specs.Times.{Consistent, Anchored}
 use Rattle.walks.specs.Label.{Labelled}
 use Rattle.walks.specs.Place.{Given, Placed}
@@ -38,9 +38,6 @@ pub exactly : {G : Graph} {te : ℕ → ℤ} {T n k : ℕ} → 0 < T → Between
 exactly h E = (closed, λ c. consistent (labels h E c .1 .labelled))
 
 -- ---- the anchored timetable
-
-pub exists : {G : Graph} {te : ℕ → ℤ} {T n k : ℕ} → 0 < T → Between G n k → Consistent G te T k → (π : ℕ → ℕ) × Anchored G te T n k π
-exists h E c = let l = labels h E (closed c) in (at (l .0), anchored (l .1 .labelled))
 
 module _ {G : Graph} {te : ℕ → ℤ} {T n k : ℕ} {label time : ℕ → ℕ} (L : Labelled G te T n k label time) {π : ℕ → ℕ} (A : Anchored G te T n k π) where
   -- the label is the lowest event of its part
