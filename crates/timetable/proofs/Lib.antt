@@ -1,4 +1,4 @@
--- The ways out of the public calls, that each answer is the only one, what check accepts, and demands 2 and 3.
+-- The ways out of the public calls, that each answer is the only one, what check accepts, demands 2 and 3, and the paper's cases.
 pub mod Checks
 pub mod Measures
 pub mod Solves
@@ -8,3 +8,5 @@ pub mod One
 pub mod Demand2
 pub mod Demand3
 pub mod Accepts
+pub mod Models
+pub mod Cases

@@ -1,6 +1,6 @@
 -- The answers of solve, one law for each way out. Assumes nothing.
 use mathlib.Core.Path.{_≡_, refl, sym, ap, _∙_}
-use mathlib.Core.List.{List}
+use mathlib.Core.List.{List, _++_}
 use mathlib.Core.Bool.{Bool, true, false, not, _||_}
 use Prim.Native.Nat.{ℕ, _≤_, _<_}
 use native.Mathlib.Omega.{arith}
@@ -13,13 +13,13 @@ use Rattle.network.specs.Network.{Network, events, arcs}
 use Rattle.numbers.specs.Row.{at}
 use Rattle.network.specs.PublicRule.{Feasible, Smallest}
 use Rattle.network.specs.Refusals.{answer}
-use Rattle.network.specs.Table.{refusals, refusalOf, WellFormed}
+use Rattle.network.specs.Table.{refusals, refusalsWith, refusalOf, WellFormed}
 use Rattle.network.specs.Rows.{written}
 use Rattle.network.specs.Inner.{Noted}
 use Rattle.network.proofs.Scans.{true-false}
-use Rattle.network.proofs.Refusing.{once-refused, once-clear, stopped, refuses, succeeds}
+use Rattle.network.proofs.Refusing.{coded, quiet, front, once-refused, once-clear, stopped, refuses, succeeds}
 use Rattle.network.proofs.Refusing.AllClear.{none, more}
-use Rattle.network.proofs.Sound.{all-clear}
+use Rattle.network.proofs.Sound.{all-clear, well-formed}
 use Rattle.search.specs.Looked.{Looked}
 use Rattle.search.specs.Looked.Looked.{found, nothing}
 use Rattle.timetable.specs.Solve.{solveRefusals, solveJudged, Solved, Found}
@@ -30,6 +30,12 @@ module _ (N : Network) (times : List ℕ) (tensions : List ℤ) where
   pub solve-network : {r : Answer} → r ≡ refusalOf N (arcs N) → (r .code ≡ 0 → ⊥) → r ≡ solveJudged N times tensions
   unfolding solveJudged
   solve-network e n = stopped (refusals N) (solveRefusals N times tensions) 0 e n
+
+  -- nothing refuses only where the network is well-formed
+  pub solve-well : solveJudged N times tensions .code ≡ 0 → WellFormed N
+  unfolding solveJudged coded refusalsWith solveRefusals
+  solve-well z =
+      well-formed N (front (refusals N) (solveRefusals N times tensions) (quiet (refusals N ++ solveRefusals N times tensions) 0 refl z))
 
   module _ (w : WellFormed N) where
     pub solve-9-times : length times < events N → answer 9 0 0 ≡ solveJudged N times tensions

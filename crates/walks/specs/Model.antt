@@ -1,5 +1,4 @@
--- The answer of `place_arcs` as antt computes it, event by event and arc by arc, with the cases of the paper beside it. Definitions alone.
-use mathlib.Core.Path.{_≡_, refl}
+-- The answer of `place_arcs` as antt computes it, event by event and arc by arc. Definitions alone.
 use mathlib.Core.Bool.{cond}
 use mathlib.Core.List.{List, [], _∷_, map}
 use Prim.Native.Nat.{ℕ, zero, suc, _+_, _-_, _%_}
@@ -60,15 +59,3 @@ answer G te T n m = run G te T m 0 (own n 0)
 -- the answer for the rows of a call, and n events
 abbrev pub answerFor : List ℕ → List ℕ → List ℤ → ℕ → ℕ → Out
 answerFor tail head tensions T n = answer (graphOf tail head) (atℤ tensions) T n (length tail)
-
-P7 : answerFor (0 ∷ 1 ∷ 2 ∷ []) (1 ∷ 2 ∷ 0 ∷ []) (pos 12 ∷ pos 20 ∷ pos 28 ∷ []) 60 3 ≡ timetable (0 ∷ 12 ∷ 32 ∷ [])
-unfolding answer run step own remainder
-P7 = refl
-
-P8 : answerFor (0 ∷ 1 ∷ 2 ∷ []) (1 ∷ 2 ∷ 0 ∷ []) (pos 10 ∷ pos 21 ∷ pos 30 ∷ []) 60 3 ≡ refused 2
-unfolding answer run step own remainder
-P8 = refl
-
-P9 : answerFor (3 ∷ []) (1 ∷ []) (pos 5 ∷ []) 60 4 ≡ timetable (0 ∷ 0 ∷ 0 ∷ 55 ∷ [])
-unfolding answer run step own remainder
-P9 = refl
