@@ -1,10 +1,9 @@
 // The smallest feasible timetable of a network, or that there is none.
+ghost use mathlib.Core.Path.{_≡_};
+ghost use lib.ListN.{length};
 ghost use Rattle.network.specs.Network.{netOf};
 ghost use Rattle.search.specs.Looked.{Looked, Asked};
 ghost use Rattle.search.specs.Reduced.{RowsLent};
-ghost use Prim.Native.Nat.{ℕ};
-ghost use mathlib.Core.Path.{_≡_};
-ghost use lib.ListN.{length};
 
 mod depth;
 mod reduce;
