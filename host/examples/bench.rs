@@ -33,7 +33,9 @@ const LEAST_RUN: Duration = Duration::from_millis(2);
 
 fn main() {
     if cfg!(bridged) {
-        println!("The archive is for another processor: its times include an emulator's.");
+        println!(
+            "The archive is for another processor: its times are an emulator's, with no ratio."
+        );
     }
     println!("network           call     code    archive us  safe Rust us   ratio");
     for known in files::answers() {
@@ -44,13 +46,21 @@ fn main() {
             let ours = best(&case, archive);
             let theirs = best(&case, baseline);
             println!(
-                "{:<17} {call:<8} {:>4} {ours:>13.2} {theirs:>13.2} {:>7.2}",
+                "{:<17} {call:<8} {:>4} {ours:>13.2} {theirs:>13.2} {:>7}",
                 known.name,
                 answer.code,
-                ours / theirs
+                ratio(ours, theirs)
             );
         }
     }
+}
+
+/// An emulated call against a native one has none that means anything.
+fn ratio(ours: f64, theirs: f64) -> String {
+    if cfg!(bridged) {
+        return "-".into();
+    }
+    format!("{:.2}", ours / theirs)
 }
 
 /// The network with its smallest timetable, or all times 0 where none is feasible, and with the
