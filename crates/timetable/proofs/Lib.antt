@@ -1,10 +1,11 @@
--- The ways out of the public calls, that each answer is the only one, what check accepts, demands 2 and 3, and the paper's cases.
+-- The ways out of the public calls, that each answer is the only one, what check accepts, demands 1 to 3, and the paper's cases.
 pub mod Checks
 pub mod Measures
 pub mod Solves
 pub mod Sheets
 pub mod Rebuilds
 pub mod One
+pub mod Demand1
 pub mod Demand2
 pub mod Demand3
 pub mod Accepts
