@@ -16,12 +16,12 @@
  *    4  an end is n or more; place: the first such arc, here and below
  *    5  tail equals head
  *    6  lower is below -7200 or above 7200
- *    7  upper is below lower, or upper less lower is the arc's period or more
+ *    7  upper is below lower
  *    8  a weight is above 10000
  *    9  a row to be written is too short, or a row of times read is not exactly n long
  *   10  there is no feasible timetable
  *   11  a period differs from event 0's; place: the first such event
- *   12  a tension is outside its arc's bounds
+ *   12  a tension is outside its arc's bounds, or above lower plus the common period less 1
  *   13  no whole numbers as times give arcs 0 up to this one their tensions by the common period
  *   14  a time is not below its period; place: the first such event
  *   15  an arc is not met

@@ -24,7 +24,11 @@ fn slack(network: &Network, arc: usize, times: &[u32]) -> u32 {
 }
 
 fn met(network: &Network, arc: usize, times: &[u32]) -> bool {
-    slack(network, arc, times) as i32 <= network.upper[arc] - network.lower[arc]
+    network.lower[arc] + slack(network, arc, times) as i32 <= network.upper[arc]
+}
+
+fn working_upper(network: &Network, arc: usize, gap: u32) -> i32 {
+    network.upper[arc].min(network.lower[arc] + gap as i32 - 1)
 }
 
 /// Does the rule of this code, one of 4 to 8, apply to the arc?
@@ -34,10 +38,7 @@ fn is_bad(network: &Network, code: u32, arc: usize) -> bool {
         4 => network.tail[arc] as usize >= n || network.head[arc] as usize >= n,
         5 => network.tail[arc] == network.head[arc],
         6 => network.lower[arc] < -7200 || network.lower[arc] > 7200,
-        7 => {
-            let width = i64::from(network.upper[arc]) - i64::from(network.lower[arc]);
-            width < 0 || width >= i64::from(arc_period(network, arc))
-        }
+        7 => network.upper[arc] < network.lower[arc],
         _ => network.weight[arc] > 10_000,
     }
 }
@@ -153,7 +154,7 @@ fn smallest(network: &Network, times: &mut [u32]) -> bool {
         let gap = arc_period(network, arc);
         reduced.gaps[arc] = gap;
         reduced.offsets[arc] = (-network.lower[arc]).rem_euclid(gap as i32) as u32;
-        reduced.widths[arc] = (network.upper[arc] - network.lower[arc]) as u32;
+        reduced.widths[arc] = (working_upper(network, arc, gap) - network.lower[arc]) as u32;
     }
     place(&reduced, times, 0)
 }
@@ -213,7 +214,8 @@ pub fn rebuild(network: &Network, tensions: &[i32], times: &mut [u32]) -> Answer
     if let Some(event) = network.periods.iter().position(is_other) {
         return Answer::refusal(11, event);
     }
-    let bounds = |arc: usize| network.lower[arc]..=network.upper[arc];
+    let upper = |arc: usize| working_upper(network, arc, arc_period(network, arc));
+    let bounds = |arc: usize| network.lower[arc]..=upper(arc);
     if let Some(arc) = (0..m).find(|&arc| !bounds(arc).contains(&tensions[arc])) {
         return Answer::refusal(12, arc);
     }

@@ -12,5 +12,5 @@ mod solve;
 pub use check::check;
 pub use measure::measure;
 pub use rebuild::{rebuild, rebuild_by_trying};
-pub use rule::{arc_period, common_divisor, met, remainder, slack, tension};
+pub use rule::{arc_period, common_divisor, met, remainder, slack, tension, working_upper};
 pub use solve::{finishes_within, smallest, smallest_by_skipping, solve, solve_by_skipping};

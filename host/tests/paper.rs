@@ -64,6 +64,8 @@ fn smallest() -> Vec<Timetable> {
     let p6 = Rows::new(&[60, 60], &[arc(0, 1, 10, 15, 1), arc(0, 1, 14, 20, 1)]);
     let p10 = one_arc([1, 1], (0, 1), (7, 7));
     let p11 = one_arc([60, 60], (0, 1), (0, 59));
+    let wide = one_arc([60, 60], (0, 1), (0, 60));
+    let any = one_arc([60, 20], (0, 1), (0, 59));
     let many = Rows::new(&[60, 60], &[arc(0, 1, 0, 59, 1); 256]);
     let low = one_arc([60, 60], (0, 1), (-7200, -7200));
     vec![
@@ -74,6 +76,8 @@ fn smallest() -> Vec<Timetable> {
         timetable("P6", p6, &[0, 14], &[14, 14], 4),
         timetable("P10", p10, &[0, 0], &[7], 0),
         timetable("P11", p11, &[0, 0], &[0], 0),
+        timetable("P11, [0,60]", wide, &[0, 0], &[0], 0),
+        timetable("any time will do", any, &[0, 0], &[0], 0),
         timetable("n 1, m 0", Rows::new(&[60], &[]), &[0], &[], 0),
         timetable("m 256", many, &[0, 0], &[0; 256], 0),
         timetable("lower -7,200", low, &[0, 0], &[-7200], 0),
@@ -91,15 +95,15 @@ fn rebuilt() -> Vec<Timetable> {
 
 /// Networks that every call refuses, with code and place.
 fn refused() -> Vec<(&'static str, Rows, u32, usize)> {
-    let wide = one_arc([60, 60], (0, 1), (0, 60));
+    let back = one_arc([60, 60], (0, 1), (0, -1));
     let twice = one_arc([60, 0], (0, 0), (0, 0));
     let many = Rows::new(&[60, 60], &[arc(0, 1, 0, 59, 1); 257]);
     let low = one_arc([60, 60], (0, 1), (-7201, -7201));
     vec![
-        ("P11, [0,60]", wide, 7, 0),
         ("period 0 and equal ends", twice, 2, 1),
         ("m 257", many, 3, 0),
         ("lower -7,201", low, 6, 0),
+        ("upper below lower", back, 7, 0),
     ]
 }
 
@@ -192,10 +196,12 @@ fn timetables_are_rebuilt() {
 #[test]
 fn tensions_are_refused() {
     let mixed = one_arc([60, 20], (0, 1), (25, 30));
+    let wide = one_arc([60, 60], (0, 1), (0, 60));
     let cases = [
         ("P8, sum 61", network_a(A), vec![10, 21, 30], 13, 2),
         ("P8, outside", network_a(A), vec![10, 25, 25], 12, 2),
         ("P4's network", mixed, vec![25], 11, 1),
+        ("P11's [0,60], at 60", wide, vec![60], 12, 0),
     ];
     for (name, rows, tensions, code, place) in cases {
         let lent = Case {

@@ -12,16 +12,17 @@ use mir.Syntax.{w32}
 use mir.Val.{toZ, ofZ}
 use lib.ListN.{length, set, length-set}
 use lib.Seq.{getD-set-same, getD-set-other}
+use Rattle.numbers.proofs.Integers.{zed, ofSub}
 use Rattle.numbers.proofs.Bits.{of}
-use Rattle.numbers.proofs.Remainders.{remainder-below}
 use Rattle.network.specs.Network.{Network, arcs, tail, head, lower, upper, weight}
 use Rattle.numbers.specs.Row.{at}
-use Rattle.network.specs.PublicRule.{arcPeriod, slack, tension, widthOf, arcCost, costTo}
+use Rattle.network.specs.PublicRule.{arcPeriod, slack, tension, workingBy, working, arcCost, costTo}
 use Rattle.network.specs.Table.{WellFormed}
 use Rattle.network.specs.Rows.{written}
 use Rattle.network.specs.Trial.{AsksPeriod}
 use Rattle.network.specs.Inner.{Span, TimedArc, TimedEnd}
 use Rattle.network.proofs.Sound.{Inside, Sound, sound, arc-period}
+use Rattle.network.proofs.Width.{size, narrow, slack-below}
 
 -- a signed result of a call is passed on as it is
 pub kept : {z : ℤ} → mag z < 2147483648 → toZ w32 (ofZ w32 z) ≡ z
@@ -66,9 +67,20 @@ module _ {N : Network} {a : ℕ} (c : ArcOf N a) where
   pub lower-kept : {z : ℤ} → z ≡ lower N a → natAbs z ≤ 7200
   lower-kept e = rw e (has .lower-small a (c .arc))
 
-  pub span : {low high : ℤ} → low ≡ lower N a → high ≡ upper N a → Span low high
-  unfolding widthOf
-  span e f = rw (e, f) (record { ordered = has .narrow a (c .arc) .ordered; small = omega (arith, has .narrow a (c .arc) .width, period-of .most) })
+  -- the working upper bound, from an arc period and bounds that calls handed on
+  pub asks-working : {g : ℕ} {low : ℤ} → g ≡ arcPeriod N a → low ≡ lower N a → (0 < g) × (g ≤ 3600) × (natAbs low ≤ 7200)
+  asks-working p e = (omega (arith, p, period-of .some), omega (arith, p, period-of .most), lower-kept e)
+
+  pub working-is : {g : ℕ} {low high z : ℤ} → g ≡ arcPeriod N a → low ≡ lower N a → high ≡ upper N a → z ≡ workingBy g low high → z ≡ working N a
+  unfolding working
+  working-is p e f q = q ∙ (λ j. workingBy (p j) (e j) (f j))
+
+  pub span : {low high : ℤ} → low ≡ lower N a → high ≡ working N a → Span low high
+  span e f =
+      let n = narrow N a has (c .arc) in
+      let d = working N a -ℤ lower N a in
+      let z = size d (omega (arith, zed, n .ordered, ofSub (working N a) (lower N a))) in
+      rw (e, f) (record { ordered = n .ordered; small = omega (arith, zed, z, n .below, period-of .most) })
 
 -- ---- and with times at its ends
 
@@ -86,10 +98,7 @@ module _ {N : Network} {t : List ℕ} {a : ℕ} (c : TimedArc N t a) where
   }
 
   slack-small : slack N t a < 3600
-  unfolding slack
-  slack-small =
-      let g = period-of (arc-of c) in
-      omega (arith, g, remainder-below ((pos (at t (head N a)) -ℤ pos (at t (tail N a))) -ℤ lower N a) (arcPeriod N a) (g .some))
+  slack-small = omega (arith, period-of (arc-of c) .most, slack-below N t a (has (arc-of c)) (c .arc))
 
   pub slack-kept : {s : ℕ} → s ≡ slack N t a → s < 3600
   slack-kept e = rw e slack-small

@@ -4,16 +4,16 @@ use mathlib.Core.Bool.{Bool, true, false, _||_}
 use Prim.Native.Nat.{ℕ, _+_, _≤_, _<_}
 use native.Mathlib.Omega.{arith}
 use borrow.Author.Tests.{ltb-false, leb-false, eqb-true, eqb-false, not-false}
-use lib.IntN.{ℤ, pos, negsuc, natAbs, _-ℤ_}
-use lib.Signed.{ltZ, leZ, _≤ℤ_}
+use lib.IntN.{ℤ, pos, negsuc, natAbs}
+use lib.Signed.{ltZ, _≤ℤ_}
 use lib.ListN.{length}
 use lib.Dec.{ltb, leb, eqb}
-use Rattle.numbers.proofs.Integers.{up, dn, leℤ, ofLe, ltZ-false, leZ-false, ofSub}
+use Rattle.numbers.proofs.Integers.{up, dn, leℤ, ofLe, ltZ-false}
 use Rattle.numbers.proofs.Divisors.{gcd-pos, gcd-le}
 use Rattle.network.specs.declared.Answer.{Answer}
 use Rattle.network.specs.Network.{Network, events, arcs, period, tail, head, lower, upper, weight}
-use Rattle.network.specs.PublicRule.{arcPeriod, widthOf}
-use Rattle.network.specs.Table.{outside, differ, uneven, strays, outsideℤ, misfits, refusals, refusalsWith, refusalOf, WellFormed}
+use Rattle.network.specs.PublicRule.{arcPeriod}
+use Rattle.network.specs.Table.{outside, differ, uneven, strays, outsideℤ, refusals, refusalsWith, refusalOf, WellFormed}
 use Rattle.network.specs.Trial.{Even, Ends, named}
 use Rattle.network.proofs.Scans.{true-false}
 use Rattle.network.proofs.Refusing.{Clear, AllClear, coded, clear-all, quiet, clear}
@@ -88,25 +88,8 @@ small low e =
     go (pos n) h k = omega arith
     go (negsuc n) h k = omega arith
 
--- upper is not below lower, and above it by less than the arc period
-pub record Narrow (N : Network) (a : ℕ) : Type 0 where
-  pub ordered : lower N a ≤ℤ upper N a
-  pub width : widthOf N a < arcPeriod N a
-
-narrow : (N : Network) (a : ℕ) → misfits (lower N a) (upper N a) (arcPeriod N a) ≡ false → Narrow N a
-unfolding misfits widthOf
-narrow N a e =
-    let d = upper N a -ℤ lower N a in
-    let n = neither (ltZ (upper N a) (lower N a)) (leZ (pos (arcPeriod N a)) d) e in
-    let o = ltZ-false (upper N a) (lower N a) (n .0) in
-    record {
-      ordered = leℤ (lower N a) (upper N a) (omega arith);
-      width = go d (omega (arith, ofSub (upper N a) (lower N a))) (leZ-false (pos (arcPeriod N a)) d (n .1));
-    }
-  where
-    go : (z : ℤ) → dn z ≤ up z → up z + 0 < arcPeriod N a + dn z → natAbs z < arcPeriod N a
-    go (pos n) h k = omega arith
-    go (negsuc n) h k = absurd (omega arith)
+ordered : (low high : ℤ) → ltZ high low ≡ false → low ≤ℤ high
+ordered low high e = leℤ low high (ltZ-false high low e)
 
 -- ---- the whole
 
@@ -117,7 +100,7 @@ pub record Sound (N : Network) : Type 0 where
   pub ends : (a : ℕ) → a < arcs N → Ends N a
   pub no-loop : (a : ℕ) → a < arcs N → tail N a ≡ head N a → ⊥
   pub lower-small : (a : ℕ) → a < arcs N → natAbs (lower N a) ≤ 7200
-  pub narrow : (a : ℕ) → a < arcs N → Narrow N a
+  pub ordered : (a : ℕ) → a < arcs N → lower N a ≤ℤ upper N a
   pub weights : (a : ℕ) → a < arcs N → Inside 0 10000 (weight N a)
 
 -- no line applies anywhere
@@ -154,7 +137,7 @@ sound N w =
       ends = λ a h. ends-of N a (at 4 .nowhere a h);
       no-loop = λ a h. eqb-false (tail N a) (head N a) (at 5 .nowhere a h);
       lower-small = λ a h. small (lower N a) (at 6 .nowhere a h);
-      narrow = λ a h. narrow N a (at 7 .nowhere a h);
+      ordered = λ a h. ordered (lower N a) (upper N a) (at 7 .nowhere a h);
       weights = λ a h. inside 0 10000 (weight N a) (at 8 .nowhere a h);
     }
 

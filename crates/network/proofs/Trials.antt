@@ -15,9 +15,9 @@ use Rattle.network.specs.Network.{Network, events, arcs}
 use Rattle.numbers.specs.Row.{at}
 use Rattle.network.specs.Refusals.{Refusal, answer, answerOf}
 use Rattle.network.specs.Table.{refusalsWith, refusalOf}
-use Rattle.network.specs.Trial.{never, named, line, order, placesOf, Even, Ends, Asks, AsksAt, Scanned}
+use Rattle.network.specs.Trial.{never, named, line, order, placesOf, Even, Asks, AsksAt, Scanned}
 use Rattle.network.proofs.Refusing.{Clear, clear-of, refused, passed}
-use Rattle.network.proofs.Sound.{inside, even-of, ends-of}
+use Rattle.network.proofs.Sound.{inside, even-of}
 
 -- a place of a code above 3 is an arc, in each of the rows
 pub record ArcAt (N : Network) (i : ℕ) : Type 0 where
@@ -75,7 +75,7 @@ module _ (N : Network) (f : ℕ) where
   -- ---- what the lines passed leave to the next
 
   early : (c : ℕ) → c ≤ 3 → Asks N c
-  early c h = record { even = λ l. absurd (omega arith); ends = λ e. absurd (omega arith) }
+  early c h = record { even = λ l. absurd (omega arith) }
 
   module _ (k : ℕ) (t : Tried N f k) where
     few-events : 0 < k → events N ≤ 256
@@ -86,20 +86,16 @@ module _ (N : Network) (f : ℕ) where
     unfolding refusalsWith
     even h = even-of N f (t .clear 2 h .nowhere 0 (omega arith)) .even
 
-    ends : 3 < k → (a : ℕ) → a < arcs N → Ends N a
-    unfolding refusalsWith
-    ends h a l = ends-of N a (t .clear 3 h .nowhere a l)
-
     -- a line of the arcs
-    of-arcs : (c : ℕ) → at order k ≡ c → 2 < k → (c ≡ 7 → 3 < k) → line N f (at order k) ≡ getD (refusalsWith N f) k never
+    of-arcs : 2 < k → line N f (at order k) ≡ getD (refusalsWith N f) k never
         → line N f (at order k) .code ≡ at order k → placesOf (at order k) (events N) (arcs N) ≡ line N f (at order k) .places
         → line N f (at order k) .places ≡ arcs N → Turn N f k
-    of-arcs c q h d e i n p = record {
+    of-arcs h e i n p = record {
       same = e;
       code-is = i;
       count-is = n;
       few = omega (arith, p, even h .few-arcs);
-      asks = record { even = λ l. even h; ends = λ z. ends (d (sym q ∙ z)) };
+      asks = record { even = λ l. even h };
     }
 
   pub turn : (k : ℕ) → k < length order → Tried N f k → Turn N f k
@@ -107,11 +103,11 @@ module _ (N : Network) (f : ℕ) where
   turn zero h t = record { same = refl; code-is = refl; count-is = refl; few = omega arith; asks = early 1 (omega arith) }
   turn (suc zero) h t = record { same = refl; code-is = refl; count-is = refl; few = few-events 1 t (omega arith); asks = early 2 (omega arith) }
   turn (suc (suc zero)) h t = record { same = refl; code-is = refl; count-is = refl; few = omega arith; asks = early 3 (omega arith) }
-  turn (suc (suc (suc zero))) h t = of-arcs 3 t 4 refl (omega arith) (λ e. omega arith) refl refl refl refl
-  turn (suc (suc (suc (suc zero)))) h t = of-arcs 4 t 5 refl (omega arith) (λ e. omega arith) refl refl refl refl
-  turn (suc (suc (suc (suc (suc zero))))) h t = of-arcs 5 t 6 refl (omega arith) (λ e. omega arith) refl refl refl refl
-  turn (suc (suc (suc (suc (suc (suc zero)))))) h t = of-arcs 6 t 7 refl (omega arith) (λ e. omega arith) refl refl refl refl
-  turn (suc (suc (suc (suc (suc (suc (suc zero))))))) h t = of-arcs 7 t 8 refl (omega arith) (λ e. omega arith) refl refl refl refl
+  turn (suc (suc (suc zero))) h t = of-arcs 3 t (omega arith) refl refl refl refl
+  turn (suc (suc (suc (suc zero)))) h t = of-arcs 4 t (omega arith) refl refl refl refl
+  turn (suc (suc (suc (suc (suc zero))))) h t = of-arcs 5 t (omega arith) refl refl refl refl
+  turn (suc (suc (suc (suc (suc (suc zero)))))) h t = of-arcs 6 t (omega arith) refl refl refl refl
+  turn (suc (suc (suc (suc (suc (suc (suc zero))))))) h t = of-arcs 7 t (omega arith) refl refl refl refl
   turn (suc (suc (suc (suc (suc (suc (suc (suc k)))))))) h t = absurd (omega arith)
 
   -- ---- one line after the other

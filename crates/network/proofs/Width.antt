@@ -1,22 +1,41 @@
--- An arc of a well-formed network is met exactly up to its width of slack. Assumes nothing.
-use mathlib.Core.Path.{_≡_, refl}
+-- The working upper bound of an arc of a well-formed network: from lower up, less than the arc period above it, and the arc is met exactly up to
+-- its width of slack. Assumes nothing.
+use mathlib.Core.Path.{_≡_, refl, sym, ap, _∙_}
 use mathlib.Core.List.{List}
-use mathlib.Core.Bool.{Bool, true, false}
+use mathlib.Core.Bool.{Bool, true, false, cond}
 use Prim.Native.Nat.{ℕ, _+_, _≤_, _<_}
 use native.Mathlib.Omega.{arith}
 use borrow.Author.Tests.{leb-true, leb-false}
 use lib.IntN.{ℤ, pos, negsuc, natAbs, _+ℤ_, _-ℤ_}
-use lib.Signed.{leZ, _≤ℤ_}
+use lib.Signed.{leZ, _≤ℤ_, _<ℤ_}
 use lib.Dec.{leb}
-use Rattle.numbers.proofs.Integers.{up, dn, ofLe, ofSum, ofSub, leZ-true, leZ-false}
-use Rattle.network.specs.Network.{Network, lower, upper, arcs}
-use Rattle.network.specs.PublicRule.{slack, tension, met, widthOf}
-use Rattle.network.proofs.Sound.{Sound}
+use Rattle.numbers.proofs.Integers.{up, dn, zed, ofLe, ofSum, ofSub, leZ-true, leZ-false}
+use Rattle.numbers.proofs.Remainders.{remainder-below}
+use Rattle.numbers.specs.Row.{at}
+use Rattle.network.specs.Network.{Network, arcs, tail, head, lower, upper}
+use Rattle.network.specs.PublicRule.{arcPeriod, slack, tension, met, lesser, workingBy, working, widthOf}
+use Rattle.network.proofs.Sound.{Sound, arc-period}
+
+-- ---- of two bounds
 
 -- of a difference that is not below zero
 pub size : (z : ℤ) → dn z ≤ up z → up z ≡ natAbs z + dn z
 size (pos n) h = omega arith
 size (negsuc n) h = absurd (omega arith)
+
+-- the lesser is the one that the test finds
+pub lesser-first : (x y : ℤ) → leZ x y ≡ true → x ≡ lesser x y
+lesser-first x y e = ap (λ (b : Bool). cond b x y) (sym e)
+
+pub lesser-second : (x y : ℤ) → leZ x y ≡ false → y ≡ lesser x y
+lesser-second x y e = ap (λ (b : Bool). cond b x y) (sym e)
+
+yes : (x y : ℤ) → x ≤ℤ y → leZ x y ≡ true
+yes x y h = go (leZ x y) refl
+  where
+    go : (b : Bool) → leZ x y ≡ b → b ≡ true
+    go true e = refl
+    go false e = absurd (omega (arith, ofLe x y h, leZ-false x y e))
 
 within : (l u : ℤ) (s : ℕ) → l ≤ℤ u → leZ (l +ℤ pos s) u ≡ leb s (natAbs (u -ℤ l))
 within l u s h = go (leZ (l +ℤ pos s) u) (leb s (natAbs (u -ℤ l))) refl refl
@@ -30,6 +49,68 @@ within l u s h = go (leZ (l +ℤ pos s) u) (leb s (natAbs (u -ℤ l))) refl refl
     go false true e f = absurd (omega (arith, d, leZ-false (l +ℤ pos s) u e, leb-true s (natAbs (u -ℤ l)) f, ofSum l (pos s), ofSub u l))
     go false false e f = refl
 
-pub met-width : (N : Network) (t : List ℕ) (a : ℕ) → Sound N → a < arcs N → met N t a ≡ leb (slack N t a) (widthOf N a)
-unfolding met tension widthOf
-met-width N t a s h = within (lower N a) (upper N a) (slack N t a) (s .narrow a h .ordered)
+-- ---- their working upper bound, by cases: upper itself, or the greatest that a slack below g reaches
+
+abbrev most : ℕ → ℤ → ℤ
+most g l = (l +ℤ pos g) -ℤ pos 1
+
+module _ {g : ℕ} {l u : ℤ} (p : 0 < g) (o : l ≤ℤ u) where
+  by-cases : (P : ℤ → Type 0) → (leZ u (most g l) ≡ true → P u) → (leZ u (most g l) ≡ false → P (most g l)) → P (workingBy g l u)
+  by-cases P f h = go (leZ u (most g l)) refl
+    where
+      go : (b : Bool) → leZ u (most g l) ≡ b → P (cond b u (most g l))
+      go true e = f e
+      go false e = h e
+
+  working-from : l ≤ℤ workingBy g l u
+  working-from = by-cases (λ w. l ≤ℤ w) (λ e. o) (λ e. omega (arith, zed, ofSum l (pos g), ofSub (l +ℤ pos g) (pos 1)))
+
+  working-below : (workingBy g l u -ℤ l) <ℤ pos g
+  working-below =
+      by-cases (λ w. (w -ℤ l) <ℤ pos g)
+      (λ e. omega (arith, zed, leZ-true u (most g l) e, ofSub u l, ofSum l (pos g), ofSub (l +ℤ pos g) (pos 1)))
+      (λ e. omega (arith, zed, ofSub (most g l) l, ofSum l (pos g), ofSub (l +ℤ pos g) (pos 1)))
+
+  -- a slack that reaches beyond it would be g or more
+  working-passes : {s : ℕ} → s < g → leZ (l +ℤ pos s) u ≡ leZ (l +ℤ pos s) (workingBy g l u)
+  working-passes {s} h =
+      by-cases (λ w. leZ (l +ℤ pos s) u ≡ leZ (l +ℤ pos s) w)
+      (λ e. refl)
+      (λ e.
+      let x : (l +ℤ pos s) ≤ℤ most g l = omega (arith, zed, ofSum l (pos s), ofSum l (pos g), ofSub (l +ℤ pos g) (pos 1)) in
+      yes (l +ℤ pos s) u (omega (arith, zed, x, leZ-false u (most g l) e)) ∙ sym (yes (l +ℤ pos s) (most g l) x))
+
+-- ---- of an arc
+
+pub record Narrow (N : Network) (a : ℕ) : Type 0 where
+  pub ordered : lower N a ≤ℤ working N a
+  pub below : (working N a -ℤ lower N a) <ℤ pos (arcPeriod N a)
+
+pub narrow : (N : Network) (a : ℕ) → Sound N → a < arcs N → Narrow N a
+unfolding working
+narrow N a s h =
+    let p = arc-period N a s h .some in
+    record { ordered = working-from p (s .ordered a h); below = working-below p (s .ordered a h) }
+
+module _ (N : Network) (t : List ℕ) (a : ℕ) (s : Sound N) (h : a < arcs N) where
+  pub slack-below : slack N t a < arcPeriod N a
+  unfolding slack
+  slack-below = remainder-below ((pos (at t (head N a)) -ℤ pos (at t (tail N a))) -ℤ lower N a) (arcPeriod N a) (arc-period N a s h .some)
+
+  -- whether an arc is met does not depend on which of its two upper bounds is read
+  pub met-working : met N t a ≡ leZ (tension N t a) (working N a)
+  unfolding met tension working
+  met-working = working-passes (arc-period N a s h .some) (s .ordered a h) slack-below
+
+  pub met-width : met N t a ≡ leb (slack N t a) (widthOf N a)
+  unfolding tension widthOf
+  met-width = met-working ∙ within (lower N a) (working N a) (slack N t a) (narrow N a s h .ordered)
+
+  -- a span as wide as the arc period less 1, or wider, is always met
+  pub always-met : ((lower N a +ℤ pos (arcPeriod N a)) -ℤ pos 1) ≤ℤ upper N a → met N t a ≡ true
+  unfolding met tension
+  always-met w =
+      let l = lower N a in
+      let g = arcPeriod N a in
+      let s = slack N t a in
+      yes (l +ℤ pos s) (upper N a) (omega (arith, zed, w, slack-below, ofSum l (pos s), ofSum l (pos g), ofSub (l +ℤ pos g) (pos 1)))

@@ -1,7 +1,7 @@
--- The public rule: arc period, slack, tension, met, timetable, feasible, cost, smaller. Definitions alone.
+-- The public rule: arc period, slack, tension, met, working upper bound, timetable, feasible, cost, smaller. Definitions alone.
 use mathlib.Core.Path.{_≡_}
 use mathlib.Core.List.{List}
-use mathlib.Core.Bool.{Bool, true}
+use mathlib.Core.Bool.{Bool, true, cond}
 use Prim.Native.Nat.{ℕ, zero, suc, _+_, _*_, _<_}
 use lib.IntN.{ℤ, pos, natAbs, _+ℤ_, _-ℤ_}
 use lib.Signed.{leZ}
@@ -31,9 +31,19 @@ tension N t a = lower N a +ℤ pos (slack N t a)
 unfoldable pub met : Network → List ℕ → ℕ → Bool
 met N t a = leZ (tension N t a) (upper N a)
 
--- the slack up to which arc a is met: upper less lower
+-- working upper bound: the lesser of upper and lower plus g less 1
+abbrev pub lesser : ℤ → ℤ → ℤ
+lesser x y = cond (leZ x y) x y
+
+abbrev pub workingBy : ℕ → ℤ → ℤ → ℤ
+workingBy g low high = lesser high ((low +ℤ pos g) -ℤ pos 1)
+
+unfoldable pub working : Network → ℕ → ℤ
+working N a = workingBy (arcPeriod N a) (lower N a) (upper N a)
+
+-- the slack up to which arc a is met: the working upper bound less lower
 unfoldable pub widthOf : Network → ℕ → ℕ
-widthOf N a = natAbs (upper N a -ℤ lower N a)
+widthOf N a = natAbs (working N a -ℤ lower N a)
 
 -- a time that event v may take: from 0 to its period less 1
 unfoldable pub allowed : Network → ℕ → ℕ → Bool

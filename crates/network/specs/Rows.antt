@@ -5,9 +5,9 @@ use Prim.Native.Nat.{ℕ, zero, suc}
 use lib.ListN.{set}
 use lib.IntN.{ℤ}
 use lib.Dec.{leb}
-use Rattle.network.specs.Network.{Network, lower, upper}
+use Rattle.network.specs.Network.{Network, lower}
 use Rattle.numbers.specs.Row.{at, atℤ}
-use Rattle.network.specs.PublicRule.{met}
+use Rattle.network.specs.PublicRule.{met, working}
 use Rattle.network.specs.Table.{outsideℤ, differ}
 
 -- a time is not below its period
@@ -18,9 +18,9 @@ late periods t v = leb (at periods v) (at t v)
 abbrev pub other : List ℕ → ℕ → Bool
 other periods v = differ (at periods v) (at periods 0)
 
--- a listed tension is outside its arc's bounds
+-- a listed tension is outside its arc's bounds, the upper being the working one
 abbrev pub astray : Network → List ℤ → ℕ → Bool
-astray N x a = outsideℤ (lower N a) (upper N a) (atℤ x a)
+astray N x a = outsideℤ (lower N a) (working N a) (atℤ x a)
 
 -- an arc is not met
 abbrev pub unmet : Network → List ℕ → ℕ → Bool

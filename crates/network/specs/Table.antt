@@ -3,13 +3,12 @@ use mathlib.Core.Path.{_≡_}
 use mathlib.Core.List.{List, [], _∷_}
 use mathlib.Core.Bool.{Bool, not, _||_}
 use Prim.Native.Nat.{ℕ}
-use lib.IntN.{ℤ, pos, negsuc, _-ℤ_}
-use lib.Signed.{ltZ, leZ}
+use lib.IntN.{ℤ, pos, negsuc}
+use lib.Signed.{ltZ}
 use lib.ListN.{length}
 use lib.Dec.{ltb, leb, eqb}
 use Rattle.network.specs.declared.Answer.{Answer}
 use Rattle.network.specs.Network.{Network, events, arcs, period, tail, head, lower, upper, weight}
-use Rattle.network.specs.PublicRule.{arcPeriod}
 use Rattle.network.specs.Refusals.{Refusal, once, each, answerOf}
 
 -- below the least or above the greatest, of unsigned and of signed numbers
@@ -31,10 +30,6 @@ uneven m heads lowers uppers weights further =
 unfoldable pub strays : ℕ → ℕ → ℕ → Bool
 strays n from to = leb n from || leb n to
 
--- upper is below lower, or upper less lower is at least g
-unfoldable pub misfits : ℤ → ℤ → ℕ → Bool
-misfits low high g = ltZ high low || leZ (pos g) (high -ℤ low)
-
 -- the table, where a row of length `further` counts as an arc row
 unfoldable pub refusalsWith : Network → ℕ → List Refusal
 refusalsWith N further =
@@ -50,8 +45,8 @@ refusalsWith N further =
     ∷ each 5 (arcs N) (λ a. eqb (tail N a) (head N a))
     -- lower outside its limits
     ∷ each 6 (arcs N) (λ a. outsideℤ (negsuc 7199) (pos 7200) (lower N a))
-    -- upper below lower, or upper less lower at least g
-    ∷ each 7 (arcs N) (λ a. misfits (lower N a) (upper N a) (arcPeriod N a))
+    -- upper below lower
+    ∷ each 7 (arcs N) (λ a. ltZ (upper N a) (lower N a))
     -- weight above 10,000
     ∷ each 8 (arcs N) (λ a. outside 0 10000 (weight N a))
     ∷ []

@@ -51,7 +51,6 @@ pub record AsksPeriod (N : Network) (a : ℕ) : Type 0 where
 -- what the lines before that of a code leave to its test
 pub record Asks (N : Network) (code : ℕ) : Type 0 where
   pub even : 3 < code → Even N
-  pub ends : code ≡ 7 → (a : ℕ) → a < arcs N → Ends N a
 
 -- a test of a code at place i
 pub record AsksAt (N : Network) (further code i : ℕ) : Type 0 where

@@ -5,7 +5,7 @@ ghost use lib.IntN.{pos, natAbs, _+ℤ_, _-ℤ_};
 ghost use lib.ListN.{length};
 ghost use Rattle.network.specs.Network.{netOf};
 ghost use Rattle.numbers.specs.Row.{at, atℤ};
-ghost use Rattle.network.specs.PublicRule.{arcPeriod, slackBy, slack as slackOf, tension as tensionOf, met as metOf, costOf};
+ghost use Rattle.network.specs.PublicRule.{arcPeriod, slackBy, workingBy, slack as slackOf, tension as tensionOf, met as metOf, costOf};
 ghost use Rattle.network.specs.First.{First};
 ghost use Rattle.network.specs.Table.{outsideℤ};
 ghost use Rattle.network.specs.Rows.{late, other, astray, unmet, written};
@@ -61,7 +61,7 @@ pub fn slack_by(g: u32, low: i32, from: u32, to: u32) -> u32
     numbers::remainder(numbers::difference(to, from) - (low as i64), g)
 }
 
-// Upper less lower: the slack up to which an arc is met.
+// The working upper bound less lower: the slack up to which an arc is met.
 pub fn width(low: i32, high: i32) -> u32
     requires { ⌜ Span low high ⌝ }
     ensures { λ r. ⌜ r ≡ natAbs (high -ℤ low) ⌝ }
@@ -104,6 +104,18 @@ fn raised(low: i32, s: u32) -> i32
     ensures { λ r. ⌜ r ≡ low +ℤ pos s ⌝ }
 {
     low + (s as i32)
+}
+
+// The working upper bound: the lesser of upper and lower plus g less 1. The upper may be any i32.
+pub fn working(g: u32, low: i32, high: i32) -> i32
+    requires { ⌜ (0 < g) × (g ≤ 3600) × (natAbs low ≤ 7200) ⌝ }
+    ensures { λ r. ⌜ r ≡ workingBy g low high ⌝ }
+{
+    let most = raised(low, g - 1);
+    if high <= most {
+        return high;
+    }
+    most
 }
 
 // Weight times slack.
@@ -178,7 +190,7 @@ pub fn first_other(periods: &[u32]) -> usize
     event
 }
 
-// The first arc whose listed tension is outside its bounds, or the number of arcs.
+// The first arc whose listed tension is outside its bounds, the upper being the working one, or the number of arcs.
 pub fn first_astray(
     periods: &[u32],
     tail: &[u32],
@@ -193,7 +205,10 @@ pub fn first_astray(
 {
     let mut arc = 0;
     while arc < tail.len() {
-        if outside_signed(bound(lower, arc), bound(upper, arc), bound(tensions, arc)) {
+        let g = arc_period(periods, tail, head, lower, upper, weight, arc);
+        let low = bound(lower, arc);
+        let high = working(g, low, bound(upper, arc));
+        if outside_signed(low, high, bound(tensions, arc)) {
             break;
         }
         arc += 1;

@@ -1,10 +1,9 @@
 // The network's first refusal: one scan for all lines of the table.
 ghost use mathlib.Core.Path.{_≡_};
 ghost use Rattle.network.specs.Network.{netOf};
-ghost use Rattle.network.specs.Table.{outside as outsideOf, uneven as unevenOf, strays as straysOf, misfits as misfitsOf, refusalOf};
+ghost use Rattle.network.specs.Table.{outside as outsideOf, uneven as unevenOf, strays as straysOf, refusalOf};
 ghost use Rattle.network.specs.Trial.{line, placesOf, AsksAt, AsksScan, Scanned};
 use crate::Answer;
-use crate::rule::arc_period;
 use crate::rule::bound;
 use crate::rule::entry;
 use crate::rule::outside_signed;
@@ -61,16 +60,6 @@ fn strays(n: usize, from: usize, to: usize) -> bool
     n <= to
 }
 
-// Is the upper bound below the lower, or above it by the arc period or more? The upper may be any i32, so the difference is one of i64.
-fn misfits(low: i32, high: i32, g: u32) -> bool
-    ensures { λ r. ⌜ r ≡ misfitsOf low high g ⌝ }
-{
-    if high < low {
-        return true;
-    }
-    (high as i64) - (low as i64) >= (g as i64)
-}
-
 // How many places a code is tried at: each event, once, each arc.
 fn places(code: u32, n: usize, m: usize) -> usize
     ensures { λ r. ⌜ r ≡ placesOf code n m ⌝ }
@@ -113,11 +102,7 @@ fn applies(
         4 => strays(periods.len(), entry(tail, i), entry(head, i)),
         5 => entry(tail, i) == entry(head, i),
         6 => outside_signed(-7200, 7200, bound(lower, i)),
-        7 => misfits(
-            bound(lower, i),
-            bound(upper, i),
-            arc_period(periods, tail, head, lower, upper, weight, i),
-        ),
+        7 => bound(upper, i) < bound(lower, i),
         8 => outside(0, 10000, entry(weight, i)),
         _ => false,
     }

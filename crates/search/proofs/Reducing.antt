@@ -13,9 +13,9 @@ use Rattle.numbers.specs.Remainder.{Cong}
 use Rattle.numbers.proofs.Integers.{zed, ofSub, up-neg, dn-neg}
 use Rattle.numbers.proofs.Congruence.{cong, cong-eq, cong-refl, cong-sym, cong-trans, cong-neg, cong-sub}
 use Rattle.numbers.proofs.Remainders.{remainder-only, same-remainder, remainder-below, remainder-cong}
-use Rattle.network.specs.Network.{Network, arcs, period, tail, head, lower, upper}
+use Rattle.network.specs.Network.{Network, arcs, period, tail, head, lower}
 use Rattle.numbers.specs.Row.{at}
-use Rattle.network.specs.PublicRule.{arcPeriod, slackBy, slack, met, widthOf, allowed, Feasible}
+use Rattle.network.specs.PublicRule.{arcPeriod, slackBy, slack, met, working, widthOf, allowed, Feasible}
 use Rattle.network.proofs.Arcs.{written-none, written-more, written-length, written-at}
 use Rattle.network.proofs.Sound.{Sound, sound, arc-period}
 use Rattle.network.proofs.Width.{met-width}
@@ -56,7 +56,7 @@ module _ {N : Network} {k : ℕ} {o w g o′ w′ g′ : List ℕ} (f : RowsFill
   gaps-kept = ap length (f .gaps-are) ∙ written-length (arcPeriod N) k g
 
   -- one arc more: its period p, its bounds as they were read
-  pub filled-more : {x y p : ℕ} {low high : ℤ} → p ≡ arcPeriod N k → low ≡ lower N k → high ≡ upper N k
+  pub filled-more : {x y p : ℕ} {low high : ℤ} → p ≡ arcPeriod N k → low ≡ lower N k → high ≡ working N k
       → x ≡ slackBy p low 0 0 → y ≡ natAbs (high -ℤ low)
       → RowsFilled N (k + 1) o w g (set o′ k x) (set w′ k y) (set g′ k p)
   unfolding widthOf

@@ -5,6 +5,7 @@ use network::rule::arc_period;
 use network::rule::bound;
 use network::rule::slack_by;
 use network::rule::width;
+use network::rule::working;
 
 // Fills the rows of offsets, widths and gaps.
 pub fn reduce(
@@ -27,7 +28,8 @@ pub fn reduce(
         let low = bound(lower, arc);
         gaps[arc] = g;
         offsets[arc] = slack_by(g, low, 0, 0);
-        widths[arc] = width(low, bound(upper, arc));
+        let high = working(g, low, bound(upper, arc));
+        widths[arc] = width(low, high);
         arc += 1;
     }
 }

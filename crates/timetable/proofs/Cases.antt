@@ -3,10 +3,10 @@ use mathlib.Core.Path.{_≡_, refl, _∙_}
 use mathlib.Core.List.{List, map, List·Memᴰ, List·Memᴰ·head, List·Memᴰ·tail}
 use Rattle.numbers.specs.Divisor.{gcd}
 use Rattle.numbers.specs.Remainder.{remainder}
-use Rattle.network.specs.PublicRule.{arcPeriod, slack, tension, widthOf, arcCost, costTo}
+use Rattle.network.specs.PublicRule.{arcPeriod, slack, tension, working, widthOf, arcCost, costTo}
 use Rattle.network.specs.First.{first}
 use Rattle.network.specs.Refusals.{answerOf}
-use Rattle.network.specs.Table.{outside, outsideℤ, uneven, strays, misfits, refusalsWith}
+use Rattle.network.specs.Table.{outside, outsideℤ, uneven, strays, refusalsWith}
 use Rattle.network.specs.Rows.{written}
 use Rattle.search.specs.Reduced.{metIn}
 use Rattle.search.specs.Model.{rowsFor, hinders, fits, tries, find, smallestOf}
@@ -19,7 +19,7 @@ use Rattle.timetable.proofs.Models.{only}
 
 -- one test over the whole list
 all : map (λ (c : Case). computed (c .call)) cases ≡ map (λ (c : Case). c .said) cases
-unfolding gcd remainder arcPeriod slack tension widthOf arcCost costTo first answerOf outside outsideℤ uneven strays misfits refusalsWith written metIn rowsFor hinders fits tries find smallestOf own step run answer solveRefusals solveJudged rebuildRefusals rebuildJudged solveModel rebuildModel
+unfolding gcd remainder arcPeriod slack tension working widthOf arcCost costTo first answerOf outside outsideℤ uneven strays refusalsWith written metIn rowsFor hinders fits tries find smallestOf own step run answer solveRefusals solveJudged rebuildRefusals rebuildJudged solveModel rebuildModel
 all = refl
 
 -- and so of each case

@@ -1,5 +1,5 @@
--- Demand 3, over the contract of rebuild and the public rule. A sheet is a row of tensions, each within its arc's bounds, for a well-formed network in
--- which all events share one period. Assumes nothing.
+-- Demand 3, over the contract of rebuild and the public rule. A sheet is a row of tensions, each within its arc's working bounds, for a well-formed
+-- network in which all events share one period. Assumes nothing.
 use mathlib.Core.Path.{_≡_, sym, ap, _∙_}
 use mathlib.Core.Logic.{_↔_}
 use mathlib.Core.List.{List}

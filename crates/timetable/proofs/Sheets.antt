@@ -1,4 +1,4 @@
--- A sheet of tensions, one period and every tension within its bounds: the timetable that the walks give is the one of the public rule. Assumes nothing.
+-- A sheet of tensions, one period and every tension within its arc's working bounds: the timetable that the walks give is the one of the public rule. Assumes nothing.
 use mathlib.Core.Path.{_≡_, sym, ap, _∙_}
 use mathlib.Core.List.{List}
 use mathlib.Core.Logic.{_↔_}
@@ -14,12 +14,11 @@ use lib.Seq.{ext-getD}
 use Rattle.numbers.specs.Divisor.{gcd}
 use Rattle.numbers.specs.Remainder.{Cong}
 use Rattle.numbers.specs.Row.{at, atℤ}
-use Rattle.numbers.proofs.Integers.{zed, ofLe, ofSub}
 use Rattle.numbers.proofs.Divisors.{gcd-same}
-use Rattle.network.specs.Network.{Network, events, arcs, period, tail, head, lower, upper}
-use Rattle.network.specs.PublicRule.{arcPeriod, slackBy, slack, tension, widthOf, allowed}
+use Rattle.network.specs.Network.{Network, events, arcs, period, tail, head, lower}
+use Rattle.network.specs.PublicRule.{arcPeriod, slackBy, slack, tension, working, allowed}
 use Rattle.network.proofs.Sound.{Sound, sound, insideℤ}
-use Rattle.network.proofs.Width.{size}
+use Rattle.network.proofs.Width.{narrow}
 use Rattle.walks.specs.Walk.{Between}
 use Rattle.walks.specs.Times.{Anchored}
 use Rattle.walks.specs.Place.{Given}
@@ -44,21 +43,15 @@ module _ {N : Network} {x : List ℤ} (s : Sheet N x) where
       (λ j. gcd (s .one-period (tail N a) (has .ends a h .tail-in) j) (s .one-period (head N a) (has .ends a h .head-in) j))
       ∙ gcd-same (period N 0)
 
-  narrow : (a : ℕ) → a < arcs N → (upper N a -ℤ lower N a) <ℤ pos (period N 0)
-  unfolding widthOf
-  narrow a h =
-      let n = has .narrow a h in
-      let d = upper N a -ℤ lower N a in
-      let o = ofLe (lower N a) (upper N a) (n .ordered) in
-      let z = size d (omega (arith, ofSub (upper N a) (lower N a))) in
-      omega (arith, zed, n .width, one-gap a h)
+  below : (a : ℕ) → a < arcs N → (working N a -ℤ lower N a) <ℤ pos (period N 0)
+  below a h = rw (sym (one-gap a h)) (narrow N a has h .below)
 
   -- the public rule gives arc a the listed tension exactly if the times are that far apart by the period
   rule : (t : List ℕ) (a : ℕ) → a < arcs N → (tension N t a ≡ atℤ x a) ↔ Cong (period N 0) (atℤ x a) (pos (at t (head N a)) -ℤ pos (at t (tail N a)))
   unfolding tension slack
   rule t a h =
       let i = insideℤ (atℤ x a) (s .within a h) in
-      let p = tension-is (at t (tail N a)) (at t (head N a)) (common .0) (narrow a h) (i .0) (i .1) in
+      let p = tension-is (at t (tail N a)) (at t (head N a)) (common .0) (below a h) (i .0) (i .1) in
       let e = ap (λ (g : ℕ). lower N a +ℤ pos (slackBy g (lower N a) (at t (tail N a)) (at t (head N a)))) (one-gap a h) in
       (λ q. p .0 (sym e ∙ q), λ c. e ∙ p .1 c)
 

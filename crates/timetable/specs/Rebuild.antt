@@ -18,7 +18,7 @@ use Rattle.walks.specs.Part.{Lowest}
 use Rattle.walks.specs.Times.{Consistent}
 
 -- after the network's own, in which the tension row counts as an arc row: times too short, a period that differs from event 0's, a tension outside
--- its arc's bounds
+-- its arc's working bounds
 unfoldable pub rebuildRefusals : Network → List ℤ → List ℕ → List Refusal
 rebuildRefusals N x times =
     once 9 (ltb (length times) (events N))
@@ -55,7 +55,7 @@ pub data Rebuilt (N : Network) (x : List ℤ) (times times′ : List ℕ) (r : A
 
 -- ---- for the inner function
 
--- one period, and each listed tension within its arc's bounds
+-- one period, and each listed tension within its arc's working bounds
 pub record Sheet (N : Network) (x : List ℤ) : Type 0 where
   pub well : WellFormed N
   pub long : length x ≡ arcs N

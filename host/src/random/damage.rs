@@ -3,7 +3,7 @@
 use super::Random;
 use crate::compare::Case;
 use crate::network::{Arc, Rows};
-use crate::reference::{arc_period, remainder};
+use crate::reference::{arc_period, remainder, working_upper};
 
 /// The code that the damage brings about, and what it does to the case.
 pub type Damage = (u32, fn(&mut Random, &mut Case));
@@ -16,7 +16,7 @@ pub const NETWORK: [Damage; 8] = [
     (4, end),
     (5, equal_ends),
     (6, lower),
-    (7, width),
+    (7, upper),
     (8, weight),
 ];
 
@@ -109,11 +109,10 @@ fn lower(random: &mut Random, case: &mut Case) {
     case.rows.lower[arc] = random.pick(&[-7201, 7201, i32::MIN, i32::MAX]);
 }
 
-fn width(random: &mut Random, case: &mut Case) {
+fn upper(random: &mut Random, case: &mut Case) {
     let arc = random.below(case.rows.upper.len());
     let lower = case.rows.lower[arc];
-    let g = arc_period(&case.rows.network(), arc) as i32;
-    case.rows.upper[arc] = random.pick(&[lower - 1, lower + g, i32::MIN, i32::MAX]);
+    case.rows.upper[arc] = random.pick(&[lower - 1, i32::MIN]);
 }
 
 fn weight(random: &mut Random, case: &mut Case) {
@@ -184,7 +183,7 @@ pub const TENSION_ROW: Damage = (3, |random, case| {
     }
 });
 
-/// For rebuild. Uppers are cut where the arc's period has become shorter, else code 7 would apply.
+/// For rebuild.
 pub const OTHER_PERIOD: Damage = (11, |random, case| {
     let rows = &mut case.rows;
     let event = random.below(rows.periods.len());
@@ -193,18 +192,15 @@ pub const OTHER_PERIOD: Damage = (11, |random, case| {
         period = random.between(1, 3600) as u32;
     }
     rows.periods[event] = period;
-    for arc in 0..rows.tail.len() {
-        let g = arc_period(&rows.network(), arc) as i32;
-        rows.upper[arc] = rows.upper[arc].min(rows.lower[arc] + g - 1);
-    }
 });
 
-/// For rebuild.
+/// For rebuild; in a wide arc also at most the upper bound itself.
 pub const TENSION_OUTSIDE: Damage = (12, |random, case| {
     let arc = random.below(case.tensions.len());
     let below = case.rows.lower[arc] - 1;
-    let above = case.rows.upper[arc] + 1;
-    case.tensions[arc] = random.pick(&[below, above, i32::MIN, i32::MAX]);
+    let above = working_upper(&case.rows.network(), arc) as i32 + 1;
+    let upper = above.max(case.rows.upper[arc]);
+    case.tensions[arc] = random.pick(&[below, above, upper, i32::MIN, i32::MAX]);
 });
 
 /// For rebuild: an arc parallel to another, of period 2 or more, with a tension that disagrees.
@@ -219,7 +215,7 @@ pub const OPEN_LOOP: Damage = (13, |random, case| {
         tail: case.rows.tail[model],
         head: case.rows.head[model],
         lower,
-        upper: random.pick(&[tension, greatest]),
+        upper: random.pick(&[tension, greatest, i32::MAX]),
         weight: 1,
     };
     let place = random.below(case.rows.tail.len() + 1);

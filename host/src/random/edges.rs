@@ -1,7 +1,7 @@
 //! The values at every limit and just past it, at the first, a middle and the last place of a row.
 
 use crate::compare::Case;
-use crate::reference::arc_period;
+use crate::reference::{arc_period, working_upper};
 
 /// A change of a case; where an earlier one has taken its place away, it does nothing.
 type Edit = Box<dyn Fn(&mut Case)>;
@@ -65,7 +65,8 @@ fn add_values(list: &mut Vec<Edit>, case: &Case) {
     );
 }
 
-/// Both bounds of an arc: at either limit of lower, as narrow and as wide as may be, and past it.
+/// Both bounds of an arc: at either limit of lower, the wrong way round, as narrow as may be, one
+/// short of the arc's period, and as wide as that.
 fn add_bounds(list: &mut Vec<Edit>, case: &Case) {
     for arc in places(case.rows.tail.len()) {
         let g = arc_period(&case.rows.network(), arc) as i32;
@@ -91,8 +92,9 @@ fn add_times(list: &mut Vec<Edit>, case: &Case) {
 
 fn add_tensions(list: &mut Vec<Edit>, case: &Case) {
     for arc in places(case.rows.tail.len()) {
-        let (lower, upper) = (case.rows.lower[arc], case.rows.upper[arc]);
-        let values = [lower - 1, lower, upper, upper + 1, i32::MIN, i32::MAX];
+        let lower = case.rows.lower[arc];
+        let greatest = working_upper(&case.rows.network(), arc) as i32;
+        let values = [lower - 1, lower, greatest, greatest + 1, i32::MIN, i32::MAX];
         put(list, |case| &mut case.tensions, &[arc], &values);
     }
 }

@@ -41,7 +41,7 @@ pub fn heavy(random: &mut Random) -> Case {
         let tail = case.times[rows.tail[arc] as usize] as i32;
         let head = case.times[rows.head[arc] as usize] as i32;
         rows.lower[arc] = head - tail - random.between(least, 3599) as i32;
-        rows.upper[arc] = rows.lower[arc] + 3599;
+        rows.upper[arc] = upper(random, rows.lower[arc].into(), 3599, 3600);
         rows.weight[arc] = 10_000;
     }
     case
@@ -102,12 +102,11 @@ fn arc(random: &mut Random, rows: &Rows, times: &[u32], met: bool) -> Arc {
     let g = common_divisor(period(tail), period(head));
     let lower = lower(random, i64::from(g));
     let slack = remainder(time(head) - time(tail) - lower, g);
-    let width = width(random, if met { slack } else { 0 }, i64::from(g));
     Arc {
         tail,
         head,
         lower: lower as i32,
-        upper: (lower + width) as i32,
+        upper: upper(random, lower, if met { slack } else { 0 }, i64::from(g)),
         weight: weight(random),
     }
 }
@@ -136,13 +135,18 @@ fn lower(random: &mut Random, g: i64) -> i64 {
     }
 }
 
-/// Upper less lower, from `least` to the arc's period less 1.
-fn width(random: &mut Random, least: i64, g: i64) -> i64 {
-    match random.below(4) {
-        0 => least,
-        1 => g - 1,
-        _ => random.between(least, g - 1),
-    }
+/// From `least` above lower on. One in four spans is as wide as the arc's period or wider, up to
+/// the greatest upper bound that there is.
+fn upper(random: &mut Random, lower: i64, least: i64, g: i64) -> i32 {
+    let greatest = i64::from(i32::MAX);
+    let upper = match random.below(8) {
+        0 => lower + least,
+        1 => lower + g - 1,
+        2 => random.pick(&[lower + g, greatest]),
+        3 => random.between(lower + g, greatest),
+        _ => lower + random.between(least, g - 1),
+    };
+    upper as i32
 }
 
 fn weight(random: &mut Random) -> u32 {

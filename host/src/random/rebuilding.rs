@@ -4,7 +4,7 @@ use super::networks::{build, size};
 use super::solving::unsolved;
 use super::Random;
 use crate::compare::Case;
-use crate::reference::tension;
+use crate::reference::{tension, working_upper};
 
 /// A common period of any kind, the tensions of a timetable, and a row of times to be written.
 pub fn with_tensions(random: &mut Random) -> Case {
@@ -45,14 +45,14 @@ pub fn unrebuilt(random: &mut Random, case: Case) -> Case {
     unsolved(random, Case { tensions, ..case })
 }
 
-/// Draws up to three tensions anew, seldom past their bounds.
+/// Draws up to three tensions anew, seldom past their working bounds.
 pub fn vary_tensions(random: &mut Random, case: &mut Case) {
     let m = case.tensions.len();
     for _ in 0..random.below(4).min(m) {
         let arc = random.below(m);
         let past = i64::from(random.one_in(8));
         let least = i64::from(case.rows.lower[arc]) - past;
-        let greatest = i64::from(case.rows.upper[arc]) + past;
+        let greatest = working_upper(&case.rows.network(), arc) + past;
         case.tensions[arc] = random.between(least, greatest) as i32;
     }
 }

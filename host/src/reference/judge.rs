@@ -1,6 +1,5 @@
 //! The refusals of a network, codes 1 to 8, each tried over everything before the next.
 
-use super::rule::arc_period;
 use crate::network::{Answer, Network};
 
 /// A rule about the rows as a whole: its place is 0.
@@ -26,17 +25,12 @@ pub fn refusal(network: &Network) -> Option<Answer> {
     } = *network;
     let (n, m) = (periods.len(), tail.len());
     let uneven = [head.len(), lower.len(), upper.len(), weight.len()] != [m; 4];
-    let width = |arc: usize| i64::from(upper[arc]) - i64::from(lower[arc]);
     whole(1, n == 0 || n > 64)
         .or_else(|| first(2, n, |event| periods[event] == 0 || periods[event] > 3600))
         .or_else(|| whole(3, uneven || m > 256))
         .or_else(|| first(4, m, |arc| tail[arc].max(head[arc]) as usize >= n))
         .or_else(|| first(5, m, |arc| tail[arc] == head[arc]))
         .or_else(|| first(6, m, |arc| lower[arc] < -7200 || lower[arc] > 7200))
-        .or_else(|| {
-            first(7, m, |arc| {
-                width(arc) < 0 || width(arc) >= i64::from(arc_period(network, arc))
-            })
-        })
+        .or_else(|| first(7, m, |arc| upper[arc] < lower[arc]))
         .or_else(|| first(8, m, |arc| weight[arc] > 10_000))
 }

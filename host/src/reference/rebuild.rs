@@ -2,7 +2,7 @@
 
 use super::judge::{first, refusal, whole};
 use super::potentials::{first_misfit, potentials};
-use super::rule::{cost, remainder};
+use super::rule::{cost, remainder, working_upper};
 use super::solve::advance;
 use crate::network::{Answer, Network};
 
@@ -36,7 +36,7 @@ pub fn rebuild_by_trying(network: &Network, tensions: &[i32], times: &mut [u32])
 /// Codes 1 to 12. The tension row counts as an arc row, so its length belongs to code 3.
 fn refused(network: &Network, tensions: &[i32], times: &[u32]) -> Option<Answer> {
     let (n, m) = (network.periods.len(), network.tail.len());
-    let (periods, lower, upper) = (network.periods, network.lower, network.upper);
+    let (periods, lower) = (network.periods, network.lower);
     match refusal(network) {
         Some(answer) if answer.code <= 3 => return Some(answer),
         _ if tensions.len() != m => return Some(Answer::refusal(3, 0)),
@@ -47,7 +47,7 @@ fn refused(network: &Network, tensions: &[i32], times: &[u32]) -> Option<Answer>
         .or_else(|| first(11, n, |event| periods[event] != periods[0]))
         .or_else(|| {
             first(12, m, |arc| {
-                tensions[arc] < lower[arc] || tensions[arc] > upper[arc]
+                tensions[arc] < lower[arc] || i64::from(tensions[arc]) > working_upper(network, arc)
             })
         })
 }

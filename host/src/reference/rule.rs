@@ -1,4 +1,4 @@
-//! The public rule: arc period, remainder, slack, tension, met, cost.
+//! The public rule: arc period, remainder, slack, tension, met, working upper bound, cost.
 
 use crate::network::Network;
 
@@ -36,6 +36,13 @@ pub fn tension(network: &Network, arc: usize, times: &[u32]) -> i64 {
 
 pub fn met(network: &Network, arc: usize, times: &[u32]) -> bool {
     tension(network, arc, times) <= i64::from(network.upper[arc])
+}
+
+/// The lesser of upper and lower plus g less 1.
+pub fn working_upper(network: &Network, arc: usize) -> i64 {
+    let upper = i64::from(network.upper[arc]);
+    let lower = i64::from(network.lower[arc]);
+    upper.min(lower + i64::from(arc_period(network, arc)) - 1)
 }
 
 /// The sum of weight times slack over all arcs.

@@ -2,10 +2,11 @@
 use mathlib.Core.Path.{refl, ap, _∙_}
 use native.Mathlib.Omega.{arith}
 use lib.IntN.{pos, negsuc}
+use lib.Signed.{ltZ}
 use lib.Dec.{eqb}
 use Rattle.network.specs.Network.{Network, net, events}
 use Rattle.network.specs.Trial.{named}
-use Rattle.network.specs.Table.{outside, outsideℤ, strays, misfits, refusalsWith}
+use Rattle.network.specs.Table.{outside, outsideℤ, strays, refusalsWith}
 use Rattle.network.proofs.Arcs.{kept}
 use Rattle.network.proofs.Trials.{ArcAt, at-code, place-at, arc-at, no-code}
 use borrow.Author.Needs.{needs}
@@ -74,23 +75,10 @@ outside-signed-requires : tie.Need-outside-signed-requires
 outside-signed-requires c κs = search needs
 
 bound-requires-2 : tie.Need-bound-requires-2
-bound-requires-2 c κs = arc7 c .lower
+bound-requires-2 c κs = arc7 c .upper
 
 bound-requires-3 : tie.Need-bound-requires-3
-bound-requires-3 c κs = arc7 (c .before) .upper
-
-arc-period-requires : tie.Need-arc-period-requires
-arc-period-requires c κs =
-    let m = c .before .before in
-    let s = start (m .before) in
-    record {
-      arc = arc7 m .tail;
-      heads-long = s .pre .asks .even (omega (arith, m .match .keys7)) .heads-long;
-      ends = s .pre .asks .ends (m .match .keys7) (s .args .i) (arc7 m .tail);
-    }
-
-misfits-requires : tie.Need-misfits-requires
-misfits-requires c κs = search needs
+bound-requires-3 c κs = arc7 (c .before) .lower
 
 entry-requires-6 : tie.Need-entry-requires-6
 entry-requires-6 c κs = arc8 c .weight
@@ -132,12 +120,10 @@ returns-6 c =
 returns-7 : tie.Need-returns-7
 unfolding named refusalsWith
 returns-7 c =
-    let p = c .before in
-    let u = p .before in
-    let l = u .before in
-    let s = start (l .before .before) in
-    at-code (N s) (s .args .further) 7 (s .args .i) (l .before .match .keys7)
-    (c .misfits .ensures ∙ (λ j. misfits ((kept (l .bound2 .ok) ∙ l .bound2 .ensures) j) ((kept (u .bound3 .ok) ∙ u .bound3 .ensures) j) (p .arc-period .ensures j)))
+    let u = c .before in
+    let s = start (u .before .before) in
+    at-code (N s) (s .args .further) 7 (s .args .i) (u .before .match .keys7)
+    (λ j. ltZ ((kept (u .bound2 .ok) ∙ u .bound2 .ensures) j) ((kept (c .bound3 .ok) ∙ c .bound3 .ensures) j))
 
 returns-8 : tie.Need-returns-8
 unfolding named refusalsWith
@@ -167,8 +153,6 @@ applies-spec =
     outside-signed-requires
     bound-requires-2
     bound-requires-3
-    arc-period-requires
-    misfits-requires
     entry-requires-6
     outside-requires-3
     returns

@@ -1,11 +1,14 @@
 -- `search::reduce::reduce` meets its contract: the entries of the arcs passed are filled. Assumes nothing.
 use Prim.Native.Nat.{_-_, _≤_}
-use mathlib.Core.Path.{_∙_}
+use mathlib.Core.Path.{_≡_, _∙_}
 use native.Mathlib.Nat.{le-antisymm}
 use native.Mathlib.Omega.{arith}
 use lib.ListN.{length}
+use mir.Syntax.{w32}
+use mir.Val.{toZ, ofZ}
 use Rattle.network.specs.Network.{Network, net}
-use Rattle.network.proofs.Arcs.{ArcOf, kept, arc-small, asks-period, in-lowers, in-uppers, period-of, span}
+use Rattle.network.specs.PublicRule.{working}
+use Rattle.network.proofs.Arcs.{ArcOf, kept, arc-small, asks-period, in-lowers, in-uppers, period-of, asks-working, working-is, span}
 use Rattle.search.specs.Reduced.{RowsFilled}
 use Rattle.search.proofs.Reducing.{filled-none, filled-more, filled-all, offsets-kept, widths-kept, gaps-kept}
 use Rattle.search.proofs.reduce.reduce.Statement.{statement}
@@ -28,6 +31,16 @@ N c =
 
 here : (c : tie.In-loop Inv-loop μ-loop) → ArcOf (N (c .before)) (c .before .loop .arc)
 here c = record { well = start (c .before) .pre .well; arc = c .loop-test .taken }
+
+-- the bound that is handed to `width`
+high : (c : tie.After-working Inv-loop μ-loop)
+    → let i = c .before .before .before .before .before in toZ w32 (ofZ w32 (c .working .result)) ≡ working (N (i .before)) (i .before .loop .arc)
+high c =
+    let u = c .before in
+    let l = u .before .before in
+    let g = l .before in
+    working-is (here (g .before)) (g .arc-period .ensures) (kept (l .bound .ok) ∙ l .bound .ensures) (kept (u .bound2 .ok) ∙ u .bound2 .ensures)
+    (kept (c .working .ok) ∙ c .working .ensures)
 
 loop-holds : tie.Need-loop-holds Inv-loop μ-loop
 loop-holds c = (omega arith, filled-none _ _ _ _)
@@ -64,17 +77,22 @@ slice-write-offsets c =
 bound-requires-2 : tie.Need-bound-requires-2 Inv-loop μ-loop
 bound-requires-2 c κs = in-uppers (here (c .before .before .before))
 
+working-requires : tie.Need-working-requires Inv-loop μ-loop
+working-requires c κs =
+    let l = c .before .before in
+    asks-working (here (l .before .before)) (l .before .arc-period .ensures) (kept (l .bound .ok) ∙ l .bound .ensures)
+
 width-requires : tie.Need-width-requires Inv-loop μ-loop
 width-requires c κs =
-    let l = c .before .before in
-    span (here (l .before .before)) (kept (l .bound .ok) ∙ l .bound .ensures) (kept (c .bound2 .ok) ∙ c .bound2 .ensures)
+    let l = c .before .before .before in
+    span (here (l .before .before)) (kept (l .bound .ok) ∙ l .bound .ensures) (high c)
 
 mul-widths : tie.Need-mul-widths Inv-loop μ-loop
-mul-widths c = omega (arith, arc-small (here (c .before .before .before .before .before)))
+mul-widths c = omega (arith, arc-small (here (c .before .before .before .before .before .before)))
 
 slice-write-widths : tie.Need-slice-write-widths Inv-loop μ-loop
 slice-write-widths c =
-    let i = c .before .before .before .before .before in
+    let i = c .before .before .before .before .before .before in
     let l = i .before in
     omega (arith, widths-kept (l .loop .inv .1), start l .pre .widths-long, i .loop-test .taken)
 
@@ -86,14 +104,13 @@ loop-less c = omega arith
 
 loop-again : tie.Need-loop-again Inv-loop μ-loop
 loop-again c =
-    let u = c .before in
-    let x = u .before in
+    let w = c .before in
+    let x = w .before .before in
     let l = x .before in
     let g = l .before in
     let k = g .before .before in (
       omega arith,
-      filled-more (k .loop .inv .1) (g .arc-period .ensures) (kept (l .bound .ok) ∙ l .bound .ensures) (kept (u .bound2 .ok) ∙ u .bound2 .ensures)
-          (x .slack-by .ensures) (c .width .ensures),
+      filled-more (k .loop .inv .1) (g .arc-period .ensures) (kept (l .bound .ok) ∙ l .bound .ensures) (high w) (x .slack-by .ensures) (c .width .ensures),
     )
 
 same-length : tie.Need-same-length Inv-loop μ-loop
@@ -125,6 +142,7 @@ reduce-spec =
     mul-offsets
     slice-write-offsets
     bound-requires-2
+    working-requires
     width-requires
     mul-widths
     slice-write-widths
