@@ -14,7 +14,7 @@ use lib.ListN.{length, set, length-set}
 use lib.Seq.{getD-set-same, getD-set-other}
 use Rattle.numbers.proofs.Integers.{zed, ofSub}
 use Rattle.numbers.proofs.Bits.{of}
-use Rattle.network.specs.Network.{Network, arcs, tail, head, lower, upper, weight}
+use Rattle.network.specs.Network.{Network, arcs, lower, upper, weight}
 use Rattle.numbers.specs.Row.{at}
 use Rattle.network.specs.PublicRule.{arcPeriod, slack, tension, workingBy, working, arcCost, costTo}
 use Rattle.network.specs.Table.{WellFormed}

@@ -24,11 +24,8 @@ size (pos n) h = omega arith
 size (negsuc n) h = absurd (omega arith)
 
 -- the lesser is the one that the test finds
-pub lesser-first : (x y : ℤ) → leZ x y ≡ true → x ≡ lesser x y
-lesser-first x y e = ap (λ (b : Bool). cond b x y) (sym e)
-
-pub lesser-second : (x y : ℤ) → leZ x y ≡ false → y ≡ lesser x y
-lesser-second x y e = ap (λ (b : Bool). cond b x y) (sym e)
+pub lesser-is : (x y : ℤ) {b : Bool} → leZ x y ≡ b → cond b x y ≡ lesser x y
+lesser-is x y e = ap (λ (b : Bool). cond b x y) (sym e)
 
 yes : (x y : ℤ) → x ≤ℤ y → leZ x y ≡ true
 yes x y h = go (leZ x y) refl
@@ -82,6 +79,7 @@ module _ {g : ℕ} {l u : ℤ} (p : 0 < g) (o : l ≤ℤ u) where
 
 -- ---- of an arc
 
+-- the working upper bound is not below lower, and above it by less than the arc period
 pub record Narrow (N : Network) (a : ℕ) : Type 0 where
   pub ordered : lower N a ≤ℤ working N a
   pub below : (working N a -ℤ lower N a) <ℤ pos (arcPeriod N a)

@@ -5,11 +5,11 @@ use native.Mathlib.Omega.{arith}
 use Prim.Native.Nat.{_-_}
 use lib.IntN.{ℤ, pos, _+ℤ_, _-ℤ_}
 use mir.Syntax.{w32}
-use mir.Val.{toZ, ofZ}
+use mir.Val.{ofZ}
 use Rattle.numbers.proofs.Integers.{zed, ofSum, ofSub}
 use Rattle.numbers.proofs.Bits.{Bits, of, lit, le-is}
 use Rattle.network.proofs.Arcs.{kept}
-use Rattle.network.proofs.Width.{lesser-first, lesser-second}
+use Rattle.network.proofs.Width.{lesser-is}
 use Rattle.network.proofs.rule.working.Statement.{statement}
 use Rattle.network.proofs.rule.working.Tie as tie
 
@@ -34,13 +34,13 @@ returns : tie.Need-returns
 returns c =
     let s = c .before .before in
     let h = of (s .fits .high) in
-    h .is ∙ lesser-first (s .args .high) (most s) (sym (le-is h (most-is (c .before))) ∙ c .if1 .taken)
+    h .is ∙ lesser-is (s .args .high) (most s) (sym (le-is h (most-is (c .before))) ∙ c .if1 .taken)
 
 returns-2 : tie.Need-returns-2
 returns-2 c =
     let s = c .before .before in
     let m = most-is (c .before) in
-    m .is ∙ lesser-second (s .args .high) (most s) (sym (le-is (of (s .fits .high)) m) ∙ c .if1 .left)
+    m .is ∙ lesser-is (s .args .high) (most s) (sym (le-is (of (s .fits .high)) m) ∙ c .if1 .left)
 
 pub working-spec : {M : Type 1} → statement M
 working-spec = tie.close (tie.spec sub-raised raised-requires returns returns-2)
