@@ -1,14 +1,14 @@
--- From what a scan found to the answer of a table, one law for each way. Assumes nothing.
+-- From what a scan found to the answer of a table, one law for each way, and a row after it. Assumes nothing.
 use mathlib.Core.Path.{_≡_, refl, sym, ap, _∙_}
 use mathlib.Core.List.{List, [], _∷_, _++_}
 use mathlib.Core.Bool.{Bool, true, false, cond, _&&_}
 use Prim.Native.Nat.{ℕ, _≤_, _<_}
 use native.Mathlib.Omega.{arith}
-use borrow.Author.Tests.{lt-ltb, ltb-true, ltb-false}
+use borrow.Author.Tests.{lt-ltb, ltb-true, ltb-false, eq-eqb, ne-eqb}
 use lib.Dec.{ltb, eqb}
 use Rattle.network.specs.declared.Answer.{Answer}
 use Rattle.network.specs.First.{First}
-use Rattle.network.specs.Refusals.{Refusal, answer, once, placeOf, answerOf}
+use Rattle.network.specs.Refusals.{Refusal, answer, once, placeOf, answerOf, after}
 use Rattle.network.specs.Trial.{named}
 use Rattle.network.proofs.Scans.{first-is, first-one, true-false}
 
@@ -119,3 +119,13 @@ clear c (more {r = r} {rs = rs} k ks) = go (eqb (r .code) c) (clear c ks)
 
 pub stopped : {r : Answer} (rs ss : List Refusal) (x : ℕ) → r ≡ answerOf rs 0 → (r .code ≡ 0 → ⊥) → r ≡ answerOf (rs ++ ss) x
 stopped rs ss x e n = e ∙ sym (stops rs ss x (λ z. n (ap (λ (a : Answer). a .code) e ∙ z)))
+
+-- ---- a row after a call: as it was under any code but 0, written under code 0
+
+pub after-kept : {A : Type 0} (r : Answer) (new was : List A) → (r .code ≡ 0 → ⊥) → after r new was ≡ was
+unfolding after
+after-kept r new was n = simp (ne-eqb (r .code) 0 n)
+
+pub after-written : {A : Type 0} (r : Answer) (new was : List A) → r .code ≡ 0 → after r new was ≡ new
+unfolding after
+after-written r new was e = simp (eq-eqb (r .code) 0 e)

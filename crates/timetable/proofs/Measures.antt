@@ -12,10 +12,10 @@ use Rattle.network.specs.declared.Answer.{Answer}
 use Rattle.network.specs.Network.{Network, events, arcs}
 use Rattle.network.specs.PublicRule.{tension, costOf}
 use Rattle.network.specs.First.{First}
-use Rattle.network.specs.Refusals.{answer, after}
+use Rattle.network.specs.Refusals.{answer}
 use Rattle.network.specs.Table.{differ, refusals, refusalOf, WellFormed}
 use Rattle.network.specs.Rows.{late, written}
-use Rattle.network.proofs.Refusing.{once-refused, once-clear, clear-of, stopped, refuses, succeeds}
+use Rattle.network.proofs.Refusing.{after-kept, after-written, once-refused, once-clear, clear-of, stopped, refuses, succeeds}
 use Rattle.network.proofs.Refusing.AllClear.{none, more}
 use Rattle.network.proofs.Sound.{all-clear}
 use Rattle.timetable.specs.Measure.{measureRefusals, measureOf, Measured}
@@ -51,13 +51,11 @@ module _ (N : Network) (t : List ℕ) (row : List ℤ) (w : WellFormed N) where
 
 module _ {N : Network} {t : List ℕ} {was : List ℤ} {r : Answer} where
   pub measured-not : (r .code ≡ 0 → ⊥) → r ≡ measureOf N t was → Measured N t was was r
-  unfolding after
-  measured-not n a = record { answer = a; row = simp (ne-eqb (r .code) 0 n) }
+  measured-not n a = record { answer = a; row = sym (after-kept r _ _ n) }
 
   pub measured-refused : {c p : ℕ} → 0 < c → r ≡ answer c p 0 → answer c p 0 ≡ measureOf N t was → Measured N t was was r
   measured-refused h e a = measured-not (λ z. omega (arith, ap (λ (q : Answer). q .code) e)) (e ∙ a)
 
   pub measured : {is : List ℤ} → r ≡ answer 0 0 (costOf N t) → answer 0 0 (costOf N t) ≡ measureOf N t was
       → is ≡ written (tension N t) (arcs N) was → Measured N t was is r
-  unfolding after
-  measured e a q = record { answer = e ∙ a; row = q ∙ sym (ap (λ (o : Answer). after o (written (tension N t) (arcs N) was) was) e) }
+  measured e a q = record { answer = e ∙ a; row = q ∙ sym (after-written r _ _ (ap (λ (o : Answer). o .code) e)) }
