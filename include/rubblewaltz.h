@@ -1,5 +1,6 @@
 /*
- * Rubblewaltz: tests and makes periodic timetables over lent rows of numbers.
+ * Rubblewaltz: tests and makes periodic timetables over lent rows of numbers, and reads and prints
+ * networks as text.
  *
  * A network is six rows, each lent as pointer and length. The length of periods is the number of
  * events n, the common length of the other five the number of arcs m. Each pointer is to as many
@@ -25,6 +26,18 @@
  *   13  no whole numbers as times give arcs 0 up to this one their tensions by the common period
  *   14  a time is not below its period; place: the first such event
  *   15  an arc is not met
+ *
+ * A network as text is two rows of bytes, records of comma-separated fields (RFC 4180). The events
+ * text has the header event,period and a record for each event, the arcs text the header
+ * arc,tail,head,lower,upper,weight and a record for each arc, both numbered in rising order from 0.
+ * A field is one or more decimal digits without quotes, in lower and upper with an optional minus.
+ * A line ends in CR LF, which the last line may lack. For reading, first 9 is tried; then for the
+ * events text and after it for the arcs text:
+ *
+ *   16  the header is wrong; place: 0 for the events text, 1 for the arcs text
+ *   17  a record is bad, by its layout, its number, a value that its row can't hold, or as a 65th
+ *       event or 257th arc; place: the first such record of its text, from 0 after the header, and
+ *       0 for an events text without records
  */
 #ifndef RUBBLEWALTZ_H
 #define RUBBLEWALTZ_H
@@ -40,6 +53,15 @@ struct rubblewaltz_answer {
     uint32_t code;
     uint32_t place;
     uint64_t cost;
+};
+
+/* What reading and printing answer. The cost is 0; under any code but 0, so are both counts. */
+struct rubblewaltz_filled {
+    uint32_t code;
+    uint32_t place;
+    uint64_t cost;
+    size_t events;
+    size_t arcs;
 };
 
 /* Is the timetable right? Reads n times; writes nothing. Codes 0 with the cost, 1 to 9, 14, 15. */
@@ -94,6 +116,36 @@ struct rubblewaltz_answer rubblewaltz_rebuild(
     const uint32_t *weight, size_t weight_length,
     const int32_t *tensions, size_t tensions_length,
     uint32_t *times, size_t times_length);
+
+/*
+ * The network of two texts, not judged in any other way. The period row must have 64 entries, each
+ * arc row 256, or more. Writes periods 0 to n less 1 and arcs 0 to m less 1, the rest of the rows
+ * is kept; events is n and arcs is m. Codes 0, 9, 16, 17.
+ */
+struct rubblewaltz_filled rubblewaltz_read(
+    const uint8_t *events, size_t events_length,
+    const uint8_t *arcs, size_t arcs_length,
+    uint32_t *periods, size_t periods_length,
+    uint32_t *tail, size_t tail_length,
+    uint32_t *head, size_t head_length,
+    int32_t *lower, size_t lower_length,
+    int32_t *upper, size_t upper_length,
+    uint32_t *weight, size_t weight_length);
+
+/*
+ * The two texts of a network, which is not judged beyond the lengths of its rows: numbers in the
+ * fewest digits, CR LF after every line. Events and arcs are the bytes written, the rest of longer
+ * rows is kept. Codes 0, 1, 3, 9.
+ */
+struct rubblewaltz_filled rubblewaltz_print(
+    const uint32_t *periods, size_t periods_length,
+    const uint32_t *tail, size_t tail_length,
+    const uint32_t *head, size_t head_length,
+    const int32_t *lower, size_t lower_length,
+    const int32_t *upper, size_t upper_length,
+    const uint32_t *weight, size_t weight_length,
+    uint8_t *events, size_t events_length,
+    uint8_t *arcs, size_t arcs_length);
 
 #ifdef __cplusplus
 }

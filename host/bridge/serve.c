@@ -1,19 +1,19 @@
 /*
  * Makes the calls that come over standard input, for a host of another processor.
  *
- * A request is the call's number, the lengths of the eight rows, their entries and a fence, all as
- * 32-bit words. The reply is the answer, then entries and fence as the call left them.
+ * A request is the call's number and the sizes of the eight rows in bytes, as 32-bit words, then
+ * the rows and a fence. The reply is the answer, then rows and fence as the call left them.
  */
 #include "rubblewaltz.h"
 
-enum { ROWS = 8, FENCE = 2, SPACE = 1 << 16 };
-enum { CHECK, MEASURE, SOLVE, REBUILD };
+enum { ROWS = 8, FENCE = 8, SPACE = 1 << 18 };
+enum { CHECK, MEASURE, SOLVE, REBUILD, READ, PRINT };
 enum { READ_CALL = 0, WRITE_CALL = 1, INPUT = 0, OUTPUT = 1 };
 
 static struct {
-    uint32_t call, length[ROWS];
-    struct rubblewaltz_answer answer;
-    uint32_t entries[SPACE];
+    uint32_t call, size[ROWS];
+    struct rubblewaltz_filled answer;
+    unsigned char rows[SPACE];
 } desk;
 
 static long system_call(long number, long channel, void *data, size_t size) {
@@ -38,37 +38,44 @@ static int transfer(long number, long channel, void *data, size_t size) {
 }
 
 /* The rows lie one behind the other, so that a write past the end of one is seen in the next. */
-static size_t place_rows(uint32_t *row[ROWS]) {
-    uint32_t *next = desk.entries;
+static size_t place_rows(void *row[ROWS]) {
+    unsigned char *next = desk.rows;
     for (int k = 0; k < ROWS; k++) {
         row[k] = next;
-        next += desk.length[k];
+        next += desk.size[k];
     }
-    return (size_t)(next - desk.entries) + FENCE;
+    return (size_t)(next - desk.rows) + FENCE;
 }
 
-#define U32(k) row[k], desk.length[k]
-#define I32(k) (int32_t *)row[k], desk.length[k]
-#define NETWORK U32(0), U32(1), U32(2), I32(3), I32(4), U32(5)
-#define TIMES U32(6)
-#define TENSIONS I32(7)
+#define WORDS(k) row[k], desk.size[k] / 4
+#define BYTES(k) row[k], desk.size[k]
+#define NETWORK WORDS(0), WORDS(1), WORDS(2), WORDS(3), WORDS(4), WORDS(5)
+#define TIMES WORDS(6)
+#define TENSIONS WORDS(7)
+#define TEXTS BYTES(6), BYTES(7)
 
-static struct rubblewaltz_answer answer(uint32_t *row[ROWS]) {
+static struct rubblewaltz_filled widened(struct rubblewaltz_answer answer) {
+    return (struct rubblewaltz_filled){answer.code, answer.place, answer.cost, 0, 0};
+}
+
+static struct rubblewaltz_filled answer(void *row[ROWS]) {
     switch (desk.call) {
-    case CHECK: return rubblewaltz_check(NETWORK, TIMES);
-    case MEASURE: return rubblewaltz_measure(NETWORK, TIMES, TENSIONS);
-    case SOLVE: return rubblewaltz_solve(NETWORK, TIMES, TENSIONS);
-    case REBUILD: return rubblewaltz_rebuild(NETWORK, TENSIONS, TIMES);
+    case CHECK: return widened(rubblewaltz_check(NETWORK, TIMES));
+    case MEASURE: return widened(rubblewaltz_measure(NETWORK, TIMES, TENSIONS));
+    case SOLVE: return widened(rubblewaltz_solve(NETWORK, TIMES, TENSIONS));
+    case REBUILD: return widened(rubblewaltz_rebuild(NETWORK, TENSIONS, TIMES));
+    case READ: return rubblewaltz_read(TEXTS, NETWORK);
+    case PRINT: return rubblewaltz_print(NETWORK, TEXTS);
     }
-    return (struct rubblewaltz_answer){UINT32_MAX, 0, 0};
+    return (struct rubblewaltz_filled){UINT32_MAX, 0, 0, 0, 0};
 }
 
 int main(void) {
-    uint32_t *row[ROWS];
-    while (transfer(READ_CALL, INPUT, &desk.call, 4 + sizeof desk.length)) {
-        size_t size = 4 * place_rows(row);
-        if (size > sizeof desk.entries) return 1;
-        if (!transfer(READ_CALL, INPUT, desk.entries, size)) return 1;
+    void *row[ROWS];
+    while (transfer(READ_CALL, INPUT, &desk.call, 4 + sizeof desk.size)) {
+        size_t size = place_rows(row);
+        if (size > sizeof desk.rows) return 1;
+        if (!transfer(READ_CALL, INPUT, desk.rows, size)) return 1;
         desk.answer = answer(row);
         if (!transfer(WRITE_CALL, OUTPUT, &desk.answer, sizeof desk.answer + size)) return 1;
     }

@@ -1,9 +1,12 @@
 //! How long each call takes on the networks of the folder networks, and how that compares with the
 //! same way of working in safe Rust. Run with `cargo run --release --example bench`.
 
-use rubblewaltz_host::compare::{Case, Version};
+use rubblewaltz_host::compare::{Case, TextCase, TextVersion, Version};
 use rubblewaltz_host::files::{self, Known};
-use rubblewaltz_host::{baseline, check, measure, rebuild, reference, solve, Answer};
+use rubblewaltz_host::{
+    baseline, check, measure, print, read, rebuild, reference, solve, Answer, Filled,
+};
+use std::fmt::Debug;
 use std::hint::black_box;
 use std::time::{Duration, Instant};
 
@@ -27,6 +30,19 @@ const CALLS: [(&str, Version, Version); 4] = [
     ),
 ];
 
+const TEXT_CALLS: [(&str, TextVersion, TextVersion); 2] = [
+    (
+        "read",
+        |network, events, arcs| read(events, arcs, network),
+        |network, events, arcs| baseline::read(events, arcs, network),
+    ),
+    (
+        "print",
+        |network, events, arcs| print(&network.network(), events, arcs),
+        |network, events, arcs| baseline::print(&network.network(), events, arcs),
+    ),
+];
+
 /// The best of so many runs counts; a run has so many calls that it takes this long at least.
 const RUNS: usize = 7;
 const LEAST_RUN: Duration = Duration::from_millis(2);
@@ -41,18 +57,39 @@ fn main() {
     for known in files::answers() {
         let case = prepared(&known);
         for (call, archive, baseline) in CALLS {
-            let answer = run(&mut case.clone(), archive);
-            assert_eq!(answer, run(&mut case.clone(), baseline), "{call}");
-            let ours = best(&case, archive);
-            let theirs = best(&case, baseline);
-            println!(
-                "{:<17} {call:<8} {:>4} {ours:>13.2} {theirs:>13.2} {:>7}",
-                known.name,
-                answer.code,
-                ratio(ours, theirs)
-            );
+            let (mut ours, mut theirs) = (case.clone(), case.clone());
+            let archive = || run(&mut ours, archive);
+            report(&known.name, call, archive, || run(&mut theirs, baseline));
+        }
+        for (call, archive, baseline) in TEXT_CALLS {
+            let case = prepared_text(&known.name, call);
+            let (mut ours, mut theirs) = (case.clone(), case);
+            let archive = || run_text(&mut ours, archive);
+            report(&known.name, call, archive, || {
+                run_text(&mut theirs, baseline)
+            });
         }
     }
+}
+
+/// A line of the table. The first calls must answer the same.
+fn report<T>(
+    network: &str,
+    call: &str,
+    mut archive: impl FnMut() -> T,
+    mut baseline: impl FnMut() -> T,
+) where
+    T: Copy + Debug + PartialEq + Into<Answer>,
+{
+    let answer = archive();
+    assert_eq!(answer, baseline(), "{call}");
+    let ours = best(archive);
+    let theirs = best(baseline);
+    println!(
+        "{network:<17} {call:<8} {:>4} {ours:>13.2} {theirs:>13.2} {:>7}",
+        answer.into().code,
+        ratio(ours, theirs)
+    );
 }
 
 /// An emulated call against a native one has none that means anything.
@@ -78,27 +115,43 @@ fn prepared(known: &Known) -> Case {
     }
 }
 
+/// For read the texts and rows to be filled, for print the network and rows of its texts' lengths.
+fn prepared_text(name: &str, call: &str) -> TextCase {
+    let (events, arcs) = files::texts(name);
+    let mut rows = files::network(name);
+    if call == "read" {
+        rows.resize(64, 256);
+    }
+    TextCase { rows, events, arcs }
+}
+
 fn run(case: &mut Case, version: Version) -> Answer {
+    let case = black_box(case);
     let network = case.rows.network();
     version(&network, &mut case.times, &mut case.tensions)
 }
 
+fn run_text(case: &mut TextCase, version: TextVersion) -> Filled {
+    let case = black_box(case);
+    let network = case.rows.network_mut();
+    version(network, &mut case.events, &mut case.arcs)
+}
+
 /// Microseconds for one call.
-fn best(case: &Case, version: Version) -> f64 {
-    let mut case = case.clone();
+fn best<T>(mut call: impl FnMut() -> T) -> f64 {
     let mut calls = 1;
-    while timed(&mut case, version, calls) < LEAST_RUN {
+    while timed(&mut call, calls) < LEAST_RUN {
         calls *= 2;
     }
     (0..RUNS)
-        .map(|_| timed(&mut case, version, calls).as_secs_f64() * 1e6 / f64::from(calls))
+        .map(|_| timed(&mut call, calls).as_secs_f64() * 1e6 / f64::from(calls))
         .fold(f64::INFINITY, f64::min)
 }
 
-fn timed(case: &mut Case, version: Version, calls: u32) -> Duration {
+fn timed<T>(call: &mut impl FnMut() -> T, calls: u32) -> Duration {
     let start = Instant::now();
     for _ in 0..calls {
-        black_box(run(black_box(case), version));
+        black_box(call());
     }
     start.elapsed()
 }

@@ -1,5 +1,9 @@
 //! The archive's way of working in safe Rust, for the benchmark to measure it against.
 
+mod text;
+
+pub use text::{print, read};
+
 use crate::network::{Answer, Network};
 use std::cmp::Ordering;
 

@@ -1,7 +1,7 @@
 //! The archive's calls where it is for another processor than the tests: each goes to a small
 //! server that is linked with the archive and runs under an emulator.
 
-use crate::network::{Answer, Network};
+use crate::network::{Answer, Filled, Network, NetworkMut};
 use std::cell::RefCell;
 use std::io::{Read, Write};
 use std::process::{Child, ChildStdin, ChildStdout, Command, Stdio};
@@ -11,8 +11,12 @@ const CHECK: u32 = 0;
 const MEASURE: u32 = 1;
 const SOLVE: u32 = 2;
 const REBUILD: u32 = 3;
+const READ: u32 = 4;
+const PRINT: u32 = 5;
 
-const FENCE: [u32; 2] = [0x5afe_0001; 2];
+/// The bytes of an answer, and those behind the last row.
+const ANSWER: usize = 32;
+const FENCE: [u8; 8] = [0x5a, 0xfe, 0, 1, 0x5a, 0xfe, 0, 1];
 
 thread_local! {
     static SERVER: RefCell<Server> = RefCell::new(Server::start());
@@ -47,75 +51,111 @@ impl Server {
         }
     }
 
-    fn ask(&mut self, request: &[u32], reply_length: usize) -> Vec<u32> {
-        let bytes: Vec<u8> = request.iter().flat_map(|word| word.to_le_bytes()).collect();
+    fn ask(&mut self, request: &[u8], reply_length: usize) -> Vec<u8> {
         let input = self.input.as_mut().expect("a pipe");
-        input.write_all(&bytes).expect("the server listens");
-        let mut reply = vec![0; 4 * reply_length];
+        input.write_all(request).expect("the server listens");
+        let mut reply = vec![0; reply_length];
         self.output
             .read_exact(&mut reply)
             .expect("the server replies");
         reply
-            .chunks_exact(4)
-            .map(|word| u32::from_le_bytes([word[0], word[1], word[2], word[3]]))
-            .collect()
     }
 }
 
-/// A call's answer, and the rows of times and tensions as it left them.
+/// The bytes of the rows that a call is lent: the network's six, and the two that go with them.
+type Lent = [Vec<u8>; 8];
+
+/// Gives the call's answer, and the rows as it left them.
+fn call(number: u32, lent: &Lent) -> (Filled, Lent) {
+    let sizes = lent.iter().map(|row| row.len() as u32);
+    let words: Vec<u32> = [number].into_iter().chain(sizes).collect();
+    let rows = lent.concat();
+    let request = [&words_to_bytes(&words), &rows, &FENCE[..]].concat();
+    let reply_length = ANSWER + rows.len() + FENCE.len();
+    let reply = SERVER.with_borrow_mut(|server| server.ask(&request, reply_length));
+    let (answer, mut rest) = reply.split_at(ANSWER);
+    let left = lent.each_ref().map(|row| {
+        let (row, behind) = rest.split_at(row.len());
+        rest = behind;
+        row.to_vec()
+    });
+    assert_eq!(rest, FENCE, "nothing is written past the last row");
+    (to_answer(answer), left)
+}
+
+fn to_answer(bytes: &[u8]) -> Filled {
+    let words = bytes_to_words(bytes);
+    let wide = |k: usize| u64::from(words[k]) | u64::from(words[k + 1]) << 32;
+    Filled {
+        code: words[0],
+        place: words[1],
+        cost: wide(2),
+        events: wide(4) as usize,
+        arcs: wide(6) as usize,
+    }
+}
+
+fn words_to_bytes(row: &[u32]) -> Vec<u8> {
+    row.iter().flat_map(|entry| entry.to_le_bytes()).collect()
+}
+
+fn signed_to_bytes(row: &[i32]) -> Vec<u8> {
+    row.iter().flat_map(|entry| entry.to_le_bytes()).collect()
+}
+
+fn bytes_to_words(bytes: &[u8]) -> Vec<u32> {
+    bytes
+        .chunks_exact(4)
+        .map(|word| u32::from_le_bytes([word[0], word[1], word[2], word[3]]))
+        .collect()
+}
+
+fn bytes_to_signed(bytes: &[u8]) -> Vec<i32> {
+    let words = bytes_to_words(bytes);
+    words.iter().map(|&word| word as i32).collect()
+}
+
+fn lend(network: &Network, seventh: Vec<u8>, eighth: Vec<u8>) -> Lent {
+    [
+        words_to_bytes(network.periods),
+        words_to_bytes(network.tail),
+        words_to_bytes(network.head),
+        signed_to_bytes(network.lower),
+        signed_to_bytes(network.upper),
+        words_to_bytes(network.weight),
+        seventh,
+        eighth,
+    ]
+}
+
+/// What a call on a timetable answers, and the times and the tensions as it left them.
 struct Reply {
     answer: Answer,
     times: Vec<u32>,
     tensions: Vec<i32>,
 }
 
-fn call(number: u32, network: &Network, times: &[u32], tensions: &[i32]) -> Reply {
-    let rows = [
-        network.periods.to_vec(),
-        network.tail.to_vec(),
-        network.head.to_vec(),
-        to_words(network.lower),
-        to_words(network.upper),
-        network.weight.to_vec(),
-        times.to_vec(),
-        to_words(tensions),
-        FENCE.to_vec(),
-    ];
-    let lengths: Vec<u32> = rows[..8].iter().map(|row| row.len() as u32).collect();
-    let entries = rows.concat();
-    let request = [&[number], &lengths[..], &entries].concat();
-    let reply = SERVER.with_borrow_mut(|server| server.ask(&request, 4 + entries.len()));
-    let (answer, left) = reply.split_at(4);
-    let (left, fence) = left.split_at(left.len() - FENCE.len());
-    let (left, left_tensions) = left.split_at(left.len() - tensions.len());
-    let (left, left_times) = left.split_at(left.len() - times.len());
-    assert_eq!(left, rows[..6].concat(), "the network's rows are kept");
-    assert_eq!(fence, FENCE, "nothing is written past the last row");
+fn call_on_timetable(number: u32, network: &Network, times: &[u32], tensions: &[i32]) -> Reply {
+    let lent = lend(network, words_to_bytes(times), signed_to_bytes(tensions));
+    let (answer, left) = call(number, &lent);
+    assert_eq!(left[..6], lent[..6], "the network's rows are kept");
     Reply {
-        answer: Answer {
-            code: answer[0],
-            place: answer[1],
-            cost: u64::from(answer[2]) | u64::from(answer[3]) << 32,
-        },
-        times: left_times.to_vec(),
-        tensions: left_tensions.iter().map(|&word| word as i32).collect(),
+        answer: answer.into(),
+        times: bytes_to_words(&left[6]),
+        tensions: bytes_to_signed(&left[7]),
     }
-}
-
-fn to_words(row: &[i32]) -> Vec<u32> {
-    row.iter().map(|&entry| entry as u32).collect()
 }
 
 /// Is the timetable right? Codes 1 to 9, 14, 15, or 0 with the cost.
 pub fn check(network: &Network, times: &[u32]) -> Answer {
-    let reply = call(CHECK, network, times, &[]);
+    let reply = call_on_timetable(CHECK, network, times, &[]);
     assert_eq!(reply.times, times, "check reads the times");
     reply.answer
 }
 
 /// The timetable's tensions and cost. Codes 1 to 9, 14, or 0 with tensions 0..m written.
 pub fn measure(network: &Network, times: &[u32], tensions: &mut [i32]) -> Answer {
-    let reply = call(MEASURE, network, times, tensions);
+    let reply = call_on_timetable(MEASURE, network, times, tensions);
     assert_eq!(reply.times, times, "measure reads the times");
     tensions.copy_from_slice(&reply.tensions);
     reply.answer
@@ -123,7 +163,7 @@ pub fn measure(network: &Network, times: &[u32], tensions: &mut [i32]) -> Answer
 
 /// The smallest feasible timetable. Codes 1 to 10, or 0 with times 0..n and tensions 0..m written.
 pub fn solve(network: &Network, times: &mut [u32], tensions: &mut [i32]) -> Answer {
-    let reply = call(SOLVE, network, times, tensions);
+    let reply = call_on_timetable(SOLVE, network, times, tensions);
     times.copy_from_slice(&reply.times);
     tensions.copy_from_slice(&reply.tensions);
     reply.answer
@@ -131,8 +171,32 @@ pub fn solve(network: &Network, times: &mut [u32], tensions: &mut [i32]) -> Answ
 
 /// The timetable of these tensions. Codes 1 to 9, 11 to 13, or 0 with times 0..n written.
 pub fn rebuild(network: &Network, tensions: &[i32], times: &mut [u32]) -> Answer {
-    let reply = call(REBUILD, network, times, tensions);
+    let reply = call_on_timetable(REBUILD, network, times, tensions);
     assert_eq!(reply.tensions, tensions, "rebuild reads the tensions");
     times.copy_from_slice(&reply.times);
     reply.answer
+}
+
+/// The network of two texts. Codes 9, 16, 17, or 0 with periods 0..n and arcs 0..m written.
+pub fn read(events: &[u8], arcs: &[u8], network: NetworkMut) -> Filled {
+    let lent = lend(&network.network(), events.to_vec(), arcs.to_vec());
+    let (answer, left) = call(READ, &lent);
+    assert_eq!(left[6..], lent[6..], "read reads the texts");
+    network.periods.copy_from_slice(&bytes_to_words(&left[0]));
+    network.tail.copy_from_slice(&bytes_to_words(&left[1]));
+    network.head.copy_from_slice(&bytes_to_words(&left[2]));
+    network.lower.copy_from_slice(&bytes_to_signed(&left[3]));
+    network.upper.copy_from_slice(&bytes_to_signed(&left[4]));
+    network.weight.copy_from_slice(&bytes_to_words(&left[5]));
+    answer
+}
+
+/// The two texts of a network. Codes 1, 3, 9, or 0 with both texts written.
+pub fn print(network: &Network, events: &mut [u8], arcs: &mut [u8]) -> Filled {
+    let lent = lend(network, events.to_vec(), arcs.to_vec());
+    let (answer, left) = call(PRINT, &lent);
+    assert_eq!(left[..6], lent[..6], "the network's rows are kept");
+    events.copy_from_slice(&left[6]);
+    arcs.copy_from_slice(&left[7]);
+    answer
 }

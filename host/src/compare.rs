@@ -1,5 +1,9 @@
 //! Runs a call of the archive and of the reference on the same case and looks for a difference.
 
+mod text;
+
+pub use text::{TextCall, TextCase, TextVersion, PRINT, READ};
+
 use crate::network::{Answer, Network, Rows};
 use crate::reference;
 
@@ -59,8 +63,8 @@ pub const REBUILD_BY_TRYING: Call = Call {
 
 /// A row is lent from between two fences, so that a write outside it is seen too.
 const FENCE: usize = 2;
-const TIME_FENCE: u32 = 0x5afe_0001;
-const TENSION_FENCE: i32 = -0x5afe_0001;
+const UNSIGNED_FENCE: u32 = 0x5afe_0001;
+const SIGNED_FENCE: i32 = -0x5afe_0001;
 
 /// An answer and everything that was lent, as it stands after the call.
 #[derive(Clone, Debug, PartialEq, Eq)]
@@ -89,8 +93,8 @@ impl Call {
 
 fn run(version: Version, case: &Case) -> Outcome {
     let rows = case.rows.clone();
-    let mut fenced_times = fenced(&case.times, TIME_FENCE);
-    let mut fenced_tensions = fenced(&case.tensions, TENSION_FENCE);
+    let mut fenced_times = fenced(&case.times, UNSIGNED_FENCE);
+    let mut fenced_tensions = fenced(&case.tensions, SIGNED_FENCE);
     let answer = version(
         &rows.network(),
         inside_mut(&mut fenced_times),

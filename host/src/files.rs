@@ -1,8 +1,8 @@
 //! Reads the benchmark networks in the folder networks, and what solve is known to answer on them.
 
-use crate::network::{Arc, Rows};
+use crate::network::Rows;
+use crate::reference::network_of;
 use std::fs;
-use std::str::FromStr;
 
 const FOLDER: &str = concat!(env!("CARGO_MANIFEST_DIR"), "/networks");
 
@@ -13,48 +13,44 @@ pub struct Known {
 }
 
 pub fn answers() -> Vec<Known> {
-    records("ANSWERS.csv", "name,solve,solve_times")
-        .iter()
-        .map(|fields| Known {
-            name: fields[0].clone(),
-            times: (fields[1] == "feasible").then(|| fields[2].split(' ').map(number).collect()),
-        })
-        .collect()
+    let text = String::from_utf8(read("ANSWERS.csv")).expect("a text");
+    let mut lines = text.lines();
+    assert_eq!(lines.next(), Some("name,solve,solve_times"));
+    lines.map(known).collect()
+}
+
+fn known(line: &str) -> Known {
+    let fields: Vec<&str> = line.split(',').collect();
+    let time = |field: &str| field.parse().expect("a time");
+    Known {
+        name: fields[0].into(),
+        times: (fields[1] == "feasible").then(|| fields[2].split(' ').map(time).collect()),
+    }
+}
+
+/// All networks of the folder; solve's answers are known of those on which it is soon through.
+pub fn names() -> Vec<String> {
+    let files = fs::read_dir(FOLDER).expect("the folder");
+    let mut names: Vec<String> = files
+        .map(|file| file.expect("a file").file_name())
+        .filter_map(|file| Some(file.to_str()?.strip_suffix(".events.csv")?.into()))
+        .collect();
+    names.sort();
+    names
 }
 
 pub fn network(name: &str) -> Rows {
-    let events = records(&format!("{name}.events.csv"), "event,period");
-    let arcs = records(
-        &format!("{name}.arcs.csv"),
-        "arc,tail,head,lower,upper,weight",
-    );
-    let periods: Vec<u32> = events.iter().map(|fields| number(&fields[1])).collect();
-    let arcs: Vec<Arc> = arcs
-        .iter()
-        .map(|fields| Arc {
-            tail: number(&fields[1]),
-            head: number(&fields[2]),
-            lower: number(&fields[3]),
-            upper: number(&fields[4]),
-            weight: number(&fields[5]),
-        })
-        .collect();
-    Rows::new(&periods, &arcs)
+    let (events, arcs) = texts(name);
+    let read = network_of(&events, &arcs);
+    read.unwrap_or_else(|refused| panic!("{name}: {refused:?}"))
 }
 
-/// The lines behind the header, each cut into its fields.
-fn records(file: &str, header: &str) -> Vec<Vec<String>> {
-    let text = fs::read_to_string(format!("{FOLDER}/{file}"))
-        .unwrap_or_else(|error| panic!("{file}: {error}"));
-    let mut lines = text.lines();
-    assert_eq!(lines.next(), Some(header), "{file}");
-    lines
-        .map(|line| line.split(',').map(String::from).collect())
-        .collect()
+/// The events text and the arcs text of a network.
+pub fn texts(name: &str) -> (Vec<u8>, Vec<u8>) {
+    let text = |kind| read(&format!("{name}.{kind}.csv"));
+    (text("events"), text("arcs"))
 }
 
-fn number<T: FromStr>(field: impl AsRef<str>) -> T {
-    let field = field.as_ref();
-    let read = field.parse().ok();
-    read.unwrap_or_else(|| panic!("not a number: {field:?}"))
+fn read(file: &str) -> Vec<u8> {
+    fs::read(format!("{FOLDER}/{file}")).unwrap_or_else(|error| panic!("{file}: {error}"))
 }

@@ -1,8 +1,8 @@
 //! Safe calls into the archive of Rubblewaltz, and what its tests compare them with.
 //!
-//! `check`, `measure`, `solve` and `rebuild` here are the archive's. [`reference`] holds the same
-//! calls written from the paper alone; [`random`] makes the cases, and [`compare`] runs both and
-//! looks for a difference.
+//! `check`, `measure`, `solve`, `rebuild`, `read` and `print` here are the archive's. [`reference`]
+//! holds the same calls written from the paper and the request alone; [`random`] makes the cases,
+//! and [`compare`] runs both and looks for a difference.
 //!
 //! ```
 //! use rubblewaltz_host::{solve, Network};
@@ -32,12 +32,13 @@ pub mod random;
 #[cfg(not(bridged))]
 mod raw;
 pub mod reference;
+pub mod round_trip;
 pub mod tally;
 pub mod trials;
 
-pub use network::{Answer, Arc, Network, Rows};
+pub use network::{Answer, Arc, Filled, Network, NetworkMut, Rows};
 
 #[cfg(bridged)]
-pub use bridge::{check, measure, rebuild, solve};
+pub use bridge::{check, measure, print, read, rebuild, solve};
 #[cfg(not(bridged))]
-pub use raw::{check, measure, rebuild, solve};
+pub use raw::{check, measure, print, read, rebuild, solve};

@@ -1,4 +1,4 @@
-//! A network, lent and owned, and the answer that every call gives.
+//! A network, lent and owned, and the answers that the calls give.
 
 /// The six rows of a network. The length of `periods` is the number of events, the common length of
 /// the other five the number of arcs; rows of any length may be lent, and the call judges them.
@@ -12,7 +12,31 @@ pub struct Network<'a> {
     pub weight: &'a [u32],
 }
 
-/// What a call answers, laid out as in the C interface.
+/// The six rows of a network, lent for read to fill.
+#[derive(Debug)]
+pub struct NetworkMut<'a> {
+    pub periods: &'a mut [u32],
+    pub tail: &'a mut [u32],
+    pub head: &'a mut [u32],
+    pub lower: &'a mut [i32],
+    pub upper: &'a mut [i32],
+    pub weight: &'a mut [u32],
+}
+
+impl NetworkMut<'_> {
+    pub fn network(&self) -> Network<'_> {
+        Network {
+            periods: self.periods,
+            tail: self.tail,
+            head: self.head,
+            lower: self.lower,
+            upper: self.upper,
+            weight: self.weight,
+        }
+    }
+}
+
+/// What a call on a timetable answers, laid out as in the C interface.
 #[repr(C)]
 #[derive(Clone, Copy, Debug, PartialEq, Eq)]
 pub struct Answer {
@@ -35,6 +59,50 @@ impl Answer {
             code,
             place: place as u32,
             cost: 0,
+        }
+    }
+}
+
+/// What read and print answer, laid out as in the C interface: with how many entries or bytes were
+/// filled.
+#[repr(C)]
+#[derive(Clone, Copy, Debug, PartialEq, Eq)]
+pub struct Filled {
+    pub code: u32,
+    pub place: u32,
+    pub cost: u64,
+    pub events: usize,
+    pub arcs: usize,
+}
+
+impl Filled {
+    pub fn success(events: usize, arcs: usize) -> Self {
+        Filled {
+            code: 0,
+            place: 0,
+            cost: 0,
+            events,
+            arcs,
+        }
+    }
+
+    pub fn refusal(code: u32, place: usize) -> Self {
+        Filled {
+            code,
+            place: place as u32,
+            cost: 0,
+            events: 0,
+            arcs: 0,
+        }
+    }
+}
+
+impl From<Filled> for Answer {
+    fn from(filled: Filled) -> Self {
+        Answer {
+            code: filled.code,
+            place: filled.place,
+            cost: filled.cost,
         }
     }
 }
@@ -88,6 +156,16 @@ impl Rows {
         self.weight.insert(place, arc.weight);
     }
 
+    /// Cuts the rows to `n` events and `m` arcs, or fills them up with zeros.
+    pub fn resize(&mut self, n: usize, m: usize) {
+        self.periods.resize(n, 0);
+        self.tail.resize(m, 0);
+        self.head.resize(m, 0);
+        self.lower.resize(m, 0);
+        self.upper.resize(m, 0);
+        self.weight.resize(m, 0);
+    }
+
     pub fn network(&self) -> Network<'_> {
         Network {
             periods: &self.periods,
@@ -96,6 +174,16 @@ impl Rows {
             lower: &self.lower,
             upper: &self.upper,
             weight: &self.weight,
+        }
+    }
+    pub fn network_mut(&mut self) -> NetworkMut<'_> {
+        NetworkMut {
+            periods: &mut self.periods,
+            tail: &mut self.tail,
+            head: &mut self.head,
+            lower: &mut self.lower,
+            upper: &mut self.upper,
+            weight: &mut self.weight,
         }
     }
 }

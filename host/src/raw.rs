@@ -2,7 +2,7 @@
 
 #![allow(unsafe_code)]
 
-use crate::network::{Answer, Network};
+use crate::network::{Answer, Filled, Network, NetworkMut};
 
 extern "C" {
     fn rubblewaltz_check(
@@ -78,6 +78,44 @@ extern "C" {
         times: *mut u32,
         times_len: usize,
     ) -> Answer;
+
+    fn rubblewaltz_read(
+        events: *const u8,
+        events_len: usize,
+        arcs: *const u8,
+        arcs_len: usize,
+        periods: *mut u32,
+        periods_len: usize,
+        tail: *mut u32,
+        tail_len: usize,
+        head: *mut u32,
+        head_len: usize,
+        lower: *mut i32,
+        lower_len: usize,
+        upper: *mut i32,
+        upper_len: usize,
+        weight: *mut u32,
+        weight_len: usize,
+    ) -> Filled;
+
+    fn rubblewaltz_print(
+        periods: *const u32,
+        periods_len: usize,
+        tail: *const u32,
+        tail_len: usize,
+        head: *const u32,
+        head_len: usize,
+        lower: *const i32,
+        lower_len: usize,
+        upper: *const i32,
+        upper_len: usize,
+        weight: *const u32,
+        weight_len: usize,
+        events: *mut u8,
+        events_len: usize,
+        arcs: *mut u8,
+        arcs_len: usize,
+    ) -> Filled;
 }
 
 /// Makes the call with the network's six rows, each as pointer and length, and the arguments named.
@@ -148,6 +186,46 @@ pub fn rebuild(network: &Network, tensions: &[i32], times: &mut [u32]) -> Answer
             tensions.len(),
             times.as_mut_ptr(),
             times.len()
+        )
+    }
+}
+
+/// The network of two texts. Codes 9, 16, 17, or 0 with periods 0..n and arcs 0..m written.
+pub fn read(events: &[u8], arcs: &[u8], network: NetworkMut) -> Filled {
+    // SAFETY: as in `measure`, of the six rows written.
+    unsafe {
+        rubblewaltz_read(
+            events.as_ptr(),
+            events.len(),
+            arcs.as_ptr(),
+            arcs.len(),
+            network.periods.as_mut_ptr(),
+            network.periods.len(),
+            network.tail.as_mut_ptr(),
+            network.tail.len(),
+            network.head.as_mut_ptr(),
+            network.head.len(),
+            network.lower.as_mut_ptr(),
+            network.lower.len(),
+            network.upper.as_mut_ptr(),
+            network.upper.len(),
+            network.weight.as_mut_ptr(),
+            network.weight.len(),
+        )
+    }
+}
+
+/// The two texts of a network. Codes 1, 3, 9, or 0 with both texts written.
+pub fn print(network: &Network, events: &mut [u8], arcs: &mut [u8]) -> Filled {
+    // SAFETY: as in `measure`, of both rows written.
+    unsafe {
+        lend!(
+            rubblewaltz_print,
+            network,
+            events.as_mut_ptr(),
+            events.len(),
+            arcs.as_mut_ptr(),
+            arcs.len()
         )
     }
 }

@@ -4,19 +4,19 @@ use crate::network::Answer;
 
 pub struct Tally {
     name: String,
-    counts: [u64; 16],
+    counts: [u64; 18],
 }
 
 impl Tally {
     pub fn new(name: impl Into<String>) -> Self {
         Tally {
             name: name.into(),
-            counts: [0; 16],
+            counts: [0; 18],
         }
     }
 
-    pub fn add(&mut self, answer: Answer) {
-        self.counts[answer.code as usize] += 1;
+    pub fn add(&mut self, answer: impl Into<Answer>) {
+        self.counts[answer.into().code as usize] += 1;
     }
 
     /// Prints the counts; each of `codes` must have occurred `least` times, and no other at all.

@@ -1,5 +1,7 @@
 //! The trials that every call goes through: damages in pairs and in bunches, and the limits.
 
+pub mod text;
+
 use crate::compare::{Call, Case};
 use crate::random::damage::{self, Damage};
 use crate::random::{edges, Random};

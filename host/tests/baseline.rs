@@ -1,6 +1,6 @@
 //! The benchmark's baseline against the reference, so that it measures work that is right.
 
-use rubblewaltz_host::compare::{Call, CHECK, MEASURE, REBUILD, SOLVE};
+use rubblewaltz_host::compare::{Call, TextCall, CHECK, MEASURE, PRINT, READ, REBUILD, SOLVE};
 use rubblewaltz_host::random::damage::{
     Damage, INFEASIBLE, LATE_TIME, NETWORK, OPEN_LOOP, OTHER_PERIOD, READ_TIMES, SHORT_TENSIONS,
     SHORT_TIMES, TENSION_OUTSIDE, TENSION_ROW, UNMET_ARC,
@@ -9,6 +9,7 @@ use rubblewaltz_host::random::{
     knotted, linked, small, solvable, unplanted, vary_tensions, with_tensions, Random,
 };
 use rubblewaltz_host::tally::Tally;
+use rubblewaltz_host::trials::text;
 use rubblewaltz_host::{baseline, trials};
 
 const BASELINE_CHECK: Call = Call {
@@ -33,6 +34,18 @@ const BASELINE_REBUILD: Call = Call {
     name: "baseline rebuild",
     tried: |network, times, tensions| baseline::rebuild(network, tensions, times),
     ..REBUILD
+};
+
+const BASELINE_READ: TextCall = TextCall {
+    name: "baseline read",
+    tried: |network, events, arcs| baseline::read(events, arcs, network),
+    ..READ
+};
+
+const BASELINE_PRINT: TextCall = TextCall {
+    name: "baseline print",
+    tried: |network, events, arcs| baseline::print(&network.network(), events, arcs),
+    ..PRINT
 };
 
 fn with_network(own: &[Damage]) -> Vec<Damage> {
@@ -79,4 +92,15 @@ fn right_cases() {
     scans.require(100, &[0, 15]);
     searches.require(100, &[0, 10]);
     loops.require(100, &[0, 12, 13]);
+}
+
+#[test]
+fn texts() {
+    text::accepted(&BASELINE_READ, 5000, |_| ()).require(5000, &[0]);
+    text::one_damage(&BASELINE_READ, 5000).require(1000, &[16, 17]);
+    text::two_records(&BASELINE_READ, 2000).require(2000, &[17]);
+    text::both_texts(&BASELINE_READ, 2000).require(200, &[9, 16, 17]);
+    text::scratches(&BASELINE_READ, 5000).require(100, &[0, 9, 16, 17]);
+    text::networks(&BASELINE_PRINT, 5000, |_, _, _| ()).require(500, &[0, 9]);
+    text::damaged_networks(&BASELINE_PRINT, 2000).require(400, &[1, 3]);
 }

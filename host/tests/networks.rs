@@ -1,7 +1,8 @@
-//! solve on the benchmark networks.
+//! solve, read and print on the benchmark networks.
 
 use rubblewaltz_host::compare::Case;
 use rubblewaltz_host::files::{self, Known};
+use rubblewaltz_host::round_trip::{printed, read_rows};
 use rubblewaltz_host::{baseline, reference, solve, Answer, Network};
 
 /// Those on which a plain search is soon through.
@@ -22,6 +23,9 @@ const FINISHED: [&str; 15] = [
     "rq60-32-line-1",
     "rp60-64-line-1",
 ];
+
+/// How many networks the folder holds.
+const FILES: usize = 37;
 
 /// What solve must answer and leave in rows of the network's lengths.
 fn expected(known: &Known) -> (Answer, Case) {
@@ -70,4 +74,16 @@ fn answers_are_the_known_ones() {
 #[test]
 fn answers_of_the_baseline_are_too() {
     assert_solves("baseline", baseline::solve);
+}
+
+#[test]
+fn files_are_read_and_printed_byte_for_byte() {
+    let names = files::names();
+    assert_eq!(names.len(), FILES);
+    for name in names {
+        let (events, arcs) = files::texts(&name);
+        let rows = read_rows(&events, &arcs);
+        assert_eq!(rows, files::network(&name), "{name}");
+        assert_eq!(printed(&rows), (events, arcs), "{name}");
+    }
 }

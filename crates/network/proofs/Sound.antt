@@ -25,7 +25,7 @@ pub record Inside (least greatest x : ℕ) : Type 0 where
   pub most : x ≤ greatest
 
 -- both sides of `||` say no
-neither : (a b : Bool) → a || b ≡ false → (a ≡ false) × (b ≡ false)
+pub neither : (a b : Bool) → a || b ≡ false → (a ≡ false) × (b ≡ false)
 neither true b e = absurd (true-false refl e)
 neither false b e = (refl, e)
 

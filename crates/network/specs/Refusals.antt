@@ -4,10 +4,15 @@ use mathlib.Core.Bool.{Bool, cond}
 use Prim.Native.Nat.{ℕ}
 use lib.Dec.{ltb, eqb}
 use Rattle.network.specs.declared.Answer.{Answer}
+use Rattle.network.specs.declared.Filled.{Filled}
 use Rattle.network.specs.First.{first}
 
 abbrev pub answer : ℕ → ℕ → ℕ → Answer
 answer c p x = record { code = c; place = p; cost = x }
+
+-- of a call that fills: entries or bytes of the events, and of the arcs
+abbrev pub filled : ℕ → ℕ → ℕ → ℕ → Filled
+filled c p n m = record { code = c; place = p; cost = 0; events = n; arcs = m }
 
 -- a line of the table: its code, how many places it is tried at, and whether it applies at a place
 pub record Refusal : Type 0 where
@@ -34,3 +39,7 @@ answerOf (r ∷ rs) cost = cond (ltb (placeOf r) (r .places)) (answer (r .code) 
 -- a row after a call: written under code 0, as it was under any other
 unfoldable pub after : {A : Type 0} → Answer → List A → List A → List A
 after r new was = cond (eqb (r .code) 0) new was
+
+-- the counts with an answer: 0 under any code but 0
+unfoldable pub filledAs : Answer → ℕ → ℕ → Filled
+filledAs r n m = filled (r .code) (r .place) (cond (eqb (r .code) 0) n 0) (cond (eqb (r .code) 0) m 0)

@@ -12,7 +12,7 @@ use crate::rule::outside_signed;
 const ORDER: [u32; 8] = [1, 2, 3, 4, 5, 6, 7, 8];
 
 // Is x below the least or above the greatest?
-fn outside(least: usize, greatest: usize, x: usize) -> bool
+pub fn outside(least: usize, greatest: usize, x: usize) -> bool
     ensures { λ r. ⌜ r ≡ outsideOf least greatest x ⌝ }
 {
     if x < least {
@@ -22,7 +22,7 @@ fn outside(least: usize, greatest: usize, x: usize) -> bool
 }
 
 // Do the arc rows differ in length, or are there too many arcs?
-fn uneven(
+pub fn uneven(
     m: usize,
     heads: usize,
     lowers: usize,

@@ -2,9 +2,12 @@
 ghost use Rattle.network.specs.Network.{netOf};
 ghost use Rattle.timetable.specs.Check.{Checked};
 ghost use Rattle.timetable.specs.Measure.{Measured};
+ghost use Rattle.timetable.specs.PrintText.{Printed};
+ghost use Rattle.timetable.specs.ReadText.{Read};
 ghost use Rattle.timetable.specs.Rebuild.{Rebuilt};
 ghost use Rattle.timetable.specs.Solve.{Solved};
 use network::Answer;
+use network::Filled;
 
 #[no_mangle]
 pub extern "C" fn rubblewaltz_check(
@@ -67,4 +70,36 @@ pub extern "C" fn rubblewaltz_rebuild(
     ensures { λ r. ⌜ Rebuilt (netOf (periods .entry) (tail .entry) (head .entry) (lower .entry) (upper .entry) (weight .entry)) (now (tensions .entry)) (now (times .entry)) (now (times .exit)) r ⌝ }
 {
     timetable::rebuild::rebuild(periods, tail, head, lower, upper, weight, tensions, times)
+}
+
+#[no_mangle]
+pub extern "C" fn rubblewaltz_read(
+    events: &[u8],
+    arcs: &[u8],
+    periods: &mut [u32],
+    tail: &mut [u32],
+    head: &mut [u32],
+    lower: &mut [i32],
+    upper: &mut [i32],
+    weight: &mut [u32],
+) -> Filled
+    ensures { λ r. ⌜ Read (now (events .entry)) (now (arcs .entry)) (netOf (periods .entry) (tail .entry) (head .entry) (lower .entry) (upper .entry) (weight .entry)) (netOf (periods .exit) (tail .exit) (head .exit) (lower .exit) (upper .exit) (weight .exit)) r ⌝ }
+{
+    timetable::read_text::read_text(events, arcs, periods, tail, head, lower, upper, weight)
+}
+
+#[no_mangle]
+pub extern "C" fn rubblewaltz_print(
+    periods: &[u32],
+    tail: &[u32],
+    head: &[u32],
+    lower: &[i32],
+    upper: &[i32],
+    weight: &[u32],
+    events: &mut [u8],
+    arcs: &mut [u8],
+) -> Filled
+    ensures { λ r. ⌜ Printed (netOf (periods .entry) (tail .entry) (head .entry) (lower .entry) (upper .entry) (weight .entry)) (now (events .entry)) (now (arcs .entry)) (now (events .exit)) (now (arcs .exit)) r ⌝ }
+{
+    timetable::print_text::print_text(periods, tail, head, lower, upper, weight, events, arcs)
 }

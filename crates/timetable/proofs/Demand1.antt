@@ -2,12 +2,15 @@
 use mathlib.Core.Path.{_≡_, ap, _∙_}
 use mathlib.Core.List.{List}
 use Prim.Native.Nat.{ℕ}
-use borrow.Author.Tests.{ne-eqb}
 use lib.IntN.{ℤ}
 use Rattle.network.specs.declared.Answer.{Answer}
-use Rattle.network.specs.Network.{Network}
-use Rattle.network.specs.Refusals.{after}
+use Rattle.network.specs.declared.Filled.{Filled}
+use Rattle.network.specs.Network.{Network, net}
+use Rattle.network.specs.Refusals.{filledAs}
+use Rattle.network.proofs.Refusing.{after-kept}
 use Rattle.timetable.specs.Measure.{Measured}
+use Rattle.timetable.specs.PrintText.{printOf, Printed}
+use Rattle.timetable.specs.ReadText.{readOf, Read}
 use Rattle.timetable.specs.Rebuild.{Rebuilt}
 use Rattle.timetable.specs.Rebuild.Restored.{impossible, restored}
 use Rattle.timetable.specs.Rebuild.Rebuilt.{refused as not-judged, judged}
@@ -16,8 +19,7 @@ use Rattle.timetable.specs.Solve.Found.{infeasible, solved}
 use Rattle.timetable.specs.Solve.Solved.{refused, searched}
 
 pub measure-kept : {N : Network} {t : List ℕ} {was is : List ℤ} {r : Answer} → (r .code ≡ 0 → ⊥) → Measured N t was is r → is ≡ was
-unfolding after
-measure-kept {r = r} n p = p .row ∙ simp (ne-eqb (r .code) 0 n)
+measure-kept {r = r} n p = p .row ∙ after-kept r _ _ n
 
 pub solve-kept : {N : Network} {times times′ : List ℕ} {tensions tensions′ : List ℤ} {r : Answer}
     → (r .code ≡ 0 → ⊥) → Solved N times tensions times′ tensions′ r → (times′ ≡ times) × (tensions′ ≡ tensions)
@@ -29,3 +31,18 @@ pub rebuild-kept : {N : Network} {x : List ℤ} {times times′ : List ℕ} {r :
 rebuild-kept n (not-judged m a e) = e
 rebuild-kept n (judged z (impossible k h c m e a)) = e
 rebuild-kept n (judged z (restored t p e a)) = absurd (n (ap (λ (o : Answer). o .code) a))
+
+pub read-kept : {E A : List ℕ} {N N′ : Network} {r : Filled} → (r .code ≡ 0 → ⊥) → Read E A N N′ r → N′ ≡ N
+unfolding filledAs
+read-kept {E} {A} {N} n p =
+    let o : Answer = readOf E A N in
+    let m : o .code ≡ 0 → ⊥ = λ z. n (ap (λ (f : Filled). f .code) (p .answer) ∙ z) in
+    λ i. net ((p .periods ∙ after-kept o _ _ m) i) ((p .tails ∙ after-kept o _ _ m) i) ((p .heads ∙ after-kept o _ _ m) i)
+    ((p .lowers ∙ after-kept o _ _ m) i) ((p .uppers ∙ after-kept o _ _ m) i) ((p .weights ∙ after-kept o _ _ m) i)
+
+pub print-kept : {N : Network} {E A E′ A′ : List ℕ} {r : Filled} → (r .code ≡ 0 → ⊥) → Printed N E A E′ A′ r → (E′ ≡ E) × (A′ ≡ A)
+unfolding filledAs
+print-kept {N} {E} {A} n p =
+    let o : Answer = printOf N E A in
+    let m : o .code ≡ 0 → ⊥ = λ z. n (ap (λ (f : Filled). f .code) (p .answer) ∙ z) in
+    (p .events ∙ after-kept o _ _ m, p .arcs ∙ after-kept o _ _ m)

@@ -1,6 +1,8 @@
--- The ways out of the public calls, that each answer is the only one, what check accepts, demands 1 to 3, and the paper's cases.
+-- The ways out of the public calls, that each answer is the only one, what check accepts, that texts read back, demands 1 to 3, and the paper's cases.
 pub mod Checks
 pub mod Measures
+pub mod PrintTexts
+pub mod ReadTexts
 pub mod Solves
 pub mod Sheets
 pub mod Rebuilds
@@ -8,6 +10,7 @@ pub mod One
 pub mod Demand1
 pub mod Demand2
 pub mod Demand3
+pub mod Again
 pub mod Accepts
 pub mod Models
 pub mod Cases

@@ -5,7 +5,8 @@ use Prim.Native.Nat.{ℕ, _+_}
 use native.Mathlib.Omega.{arith}
 use lib.IntN.{ℤ}
 use Rattle.network.specs.declared.Answer.{Answer}
-use Rattle.network.specs.Network.{Network, events, arcs}
+use Rattle.network.specs.declared.Filled.{Filled}
+use Rattle.network.specs.Network.{Network, net, events, arcs}
 use Rattle.numbers.specs.Row.{at}
 use Rattle.network.specs.PublicRule.{tension, costOf}
 use Rattle.network.specs.Refusals.{answer, after}
@@ -13,6 +14,8 @@ use Rattle.network.specs.Rows.{written}
 use Rattle.search.proofs.Agreeing.{smallest-one}
 use Rattle.timetable.specs.Check.{Checked}
 use Rattle.timetable.specs.Measure.{Measured}
+use Rattle.timetable.specs.PrintText.{Printed}
+use Rattle.timetable.specs.ReadText.{Read}
 use Rattle.timetable.specs.Rebuild.{Sheet, Restored, Rebuilt}
 use Rattle.timetable.specs.Rebuild.Restored.{impossible, restored}
 use Rattle.timetable.specs.Rebuild.Rebuilt.{refused as not-judged, judged}
@@ -66,3 +69,13 @@ rebuild-one (not-judged n a e) (not-judged m b e′) = (e ∙ sym e′, a ∙ sy
 rebuild-one (not-judged n a e) (judged z q) = absurd (n (ap (λ (o : Answer). o .code) a ∙ z))
 rebuild-one (judged z p) (not-judged n a e) = absurd (n (ap (λ (o : Answer). o .code) a ∙ z))
 rebuild-one {N} {x} {times} (judged z p) (judged y q) = restored-one (sheet-judged N x times z) p q
+
+pub read-one : {E A : List ℕ} {N N′ also : Network} {r s : Filled} → Read E A N N′ r → Read E A N also s → (N′ ≡ also) × (r ≡ s)
+read-one p q = (
+  λ i. net ((p .periods ∙ sym (q .periods)) i) ((p .tails ∙ sym (q .tails)) i) ((p .heads ∙ sym (q .heads)) i)
+      ((p .lowers ∙ sym (q .lowers)) i) ((p .uppers ∙ sym (q .uppers)) i) ((p .weights ∙ sym (q .weights)) i),
+  p .answer ∙ sym (q .answer),
+)
+
+pub print-one : {N : Network} {E A E′ A′ also too : List ℕ} {r s : Filled} → Printed N E A E′ A′ r → Printed N E A also too s → (E′ ≡ also) × (A′ ≡ too) × (r ≡ s)
+print-one p q = (p .events ∙ sym (q .events), p .arcs ∙ sym (q .arcs), p .answer ∙ sym (q .answer))

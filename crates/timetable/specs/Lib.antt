@@ -3,5 +3,7 @@ pub mod Check
 pub mod Measure
 pub mod Solve
 pub mod Rebuild
+pub mod ReadText
+pub mod PrintText
 pub mod Model
 pub mod Cases

@@ -1,0 +1,101 @@
+-- The answers of printing, one law for each way out, and the rows of bytes with each. Assumes nothing.
+use mathlib.Core.Path.{_≡_, sym, ap, _∙_}
+use mathlib.Core.Bool.{Bool, true, false, cond, _||_}
+use mathlib.Core.List.{List, _++_}
+use Prim.Native.Nat.{ℕ, _+_, _≤_, _<_}
+use native.Mathlib.Omega.{arith}
+use borrow.Author.Tests.{lt-ltb, le-ltb, ne-eqb}
+use lib.Dec.{ltb}
+use lib.ListN.{length, drop}
+use Rattle.network.specs.declared.Answer.{Answer}
+use Rattle.network.specs.declared.Filled.{Filled}
+use Rattle.network.specs.Network.{Network, events, arcs}
+use Rattle.network.specs.Refusals.{answer, filled, filledAs}
+use Rattle.network.specs.Table.{outside, uneven, refusalsWith}
+use Rattle.network.specs.Trial.{named}
+use Rattle.network.proofs.Refusing.{once-refused, once-clear, refuses, succeeds, after-kept, after-written}
+use Rattle.network.proofs.Refusing.AllClear.{none, more}
+use Rattle.network.proofs.Sound.{even-of}
+use Rattle.text.specs.Fill.{onto}
+use Rattle.text.specs.Put.{Put, FiveRows}
+use Rattle.timetable.specs.PrintText.{eventsText, arcsText, printRefusals, printOf, Printed}
+
+-- the tests of the two lines of the network's table
+abbrev pub outsideIn : Network → Bool
+outsideIn N = outside 1 64 (events N)
+
+abbrev pub unevenIn : Network → Bool
+unevenIn N = uneven (arcs N) (length (N .heads)) (length (N .lowers)) (length (N .uppers)) (length (N .weights)) (arcs N)
+
+-- the arc rows are of one length, and few
+pub five-rows : (N : Network) → unevenIn N ≡ false → FiveRows (N .tails) (N .heads) (N .lowers) (N .uppers) (N .weights)
+five-rows N e =
+    let r = even-of N (arcs N) e .even in
+    record { heads = r .heads-long; lowers = r .lowers-long; uppers = r .uppers-long; weights = r .weights-long; few = r .few-arcs }
+
+module _ (N : Network) (E A : List ℕ) where
+  pub print-1 : outsideIn N ≡ true → answer 1 0 0 ≡ printOf N E A
+  unfolding printOf printRefusals named refusalsWith
+  print-1 e = refuses _ 0 none none (once-refused 1 e) (omega arith)
+
+  module _ (few : outsideIn N ≡ false) where
+    pub print-3 : unevenIn N ≡ true → answer 3 0 0 ≡ printOf N E A
+    unfolding printOf printRefusals named refusalsWith
+    print-3 e = refuses _ 0 none (more (once-clear 1 few) none) (once-refused 3 e) (omega arith)
+
+    module _ (even : unevenIn N ≡ false) where
+      short : Bool
+      short = ltb (length E) (length (eventsText N)) || ltb (length A) (length (arcsText N))
+
+      nine : short ≡ true → answer 9 0 0 ≡ printOf N E A
+      unfolding printOf printRefusals named refusalsWith short
+      nine e = refuses _ 0 none (more (once-clear 1 few) (more (once-clear 3 even) none)) (once-refused 9 e) (omega arith)
+
+      pub print-9-events : length E < length (eventsText N) → answer 9 0 0 ≡ printOf N E A
+      unfolding short
+      print-9-events h = nine (ap (λ (b : Bool). b || ltb (length A) (length (arcsText N))) (lt-ltb _ _ h))
+
+      module _ (room : length (eventsText N) ≤ length E) where
+        by-arcs : short ≡ ltb (length A) (length (arcsText N))
+        unfolding short
+        by-arcs = ap (λ (b : Bool). b || ltb (length A) (length (arcsText N))) (le-ltb _ _ room)
+
+        pub print-9-arcs : length A < length (arcsText N) → answer 9 0 0 ≡ printOf N E A
+        print-9-arcs h = nine (by-arcs ∙ lt-ltb _ _ h)
+
+        pub print-0 : length (arcsText N) ≤ length A → answer 0 0 0 ≡ printOf N E A
+        unfolding printOf printRefusals named refusalsWith short
+        print-0 h = succeeds 0 none (more (once-clear 1 few) (more (once-clear 3 even) (more (once-clear 9 (by-arcs ∙ le-ltb _ _ h)) none)))
+
+  -- ---- the answer and the rows together
+
+  pub print-not : {r : Filled} {c : ℕ} → 0 < c → r ≡ filled c 0 0 0 → answer c 0 0 ≡ printOf N E A → Printed N E A E A r
+  unfolding filledAs
+  print-not {r} {c} h f e =
+      let n : c ≡ 0 → ⊥ = λ z. omega arith in
+      let k : printOf N E A .code ≡ 0 → ⊥ = λ z. n (ap (λ (o : Answer). o .code) e ∙ z) in
+      record {
+        answer = f ∙ sym (ap (λ (b : Bool). filled c 0 (cond b (length (eventsText N)) 0) (cond b (length (arcsText N)) 0)) (ne-eqb c 0 n))
+            ∙ ap (λ (o : Answer). filledAs o (length (eventsText N)) (length (arcsText N))) e;
+        events = sym (after-kept (printOf N E A) _ _ k);
+        arcs = sym (after-kept (printOf N E A) _ _ k);
+      }
+
+  -- what was put at the beginning stands there
+  put-onto : {s row is : List ℕ} {next : ℕ} → Put s 0 row is next → (is ≡ onto s row) × (next ≡ length s)
+  put-onto {s} {row} p =
+      let z : 0 + length s ≡ length s = omega arith in
+      (p .is ∙ ap (λ (k : ℕ). s ++ drop k row) z, p .place ∙ z)
+
+  pub print-both : {E′ A′ : List ℕ} {n m : ℕ} → answer 0 0 0 ≡ printOf N E A → Put (eventsText N) 0 E E′ n → Put (arcsText N) 0 A A′ m
+      → Printed N E A E′ A′ (filled 0 0 n m)
+  unfolding filledAs
+  print-both e p q =
+      let z : printOf N E A .code ≡ 0 = ap (λ (o : Answer). o .code) (sym e) in
+      let x = put-onto p in
+      let y = put-onto q in
+      record {
+        answer = (λ i. filled 0 0 (x .1 i) (y .1 i)) ∙ ap (λ (o : Answer). filledAs o (length (eventsText N)) (length (arcsText N))) e;
+        events = x .0 ∙ sym (after-written (printOf N E A) _ _ z);
+        arcs = y .0 ∙ sym (after-written (printOf N E A) _ _ z);
+      }
