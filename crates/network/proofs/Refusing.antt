@@ -1,4 +1,4 @@
--- From what a scan found to the answer of a table, one law for each way, and a row after it. Assumes nothing.
+-- From what a scan found to the answer of a table, one law for each way, and rows and counts after it. Assumes nothing.
 use mathlib.Core.Path.{_≡_, refl, sym, ap, _∙_}
 use mathlib.Core.List.{List, [], _∷_, _++_}
 use mathlib.Core.Bool.{Bool, true, false, cond, _&&_}
@@ -7,8 +7,9 @@ use native.Mathlib.Omega.{arith}
 use borrow.Author.Tests.{lt-ltb, ltb-true, ltb-false, eq-eqb, ne-eqb}
 use lib.Dec.{ltb, eqb}
 use Rattle.network.specs.declared.Answer.{Answer}
+use Rattle.network.specs.declared.Filled.{Filled}
 use Rattle.network.specs.First.{First}
-use Rattle.network.specs.Refusals.{Refusal, answer, once, placeOf, answerOf, after}
+use Rattle.network.specs.Refusals.{Refusal, answer, once, placeOf, answerOf, after, filled, filledAs}
 use Rattle.network.specs.Trial.{named}
 use Rattle.network.proofs.Scans.{first-is, first-one, true-false}
 
@@ -129,3 +130,18 @@ after-kept r new was n = simp (ne-eqb (r .code) 0 n)
 pub after-written : {A : Type 0} (r : Answer) (new was : List A) → r .code ≡ 0 → after r new was ≡ new
 unfolding after
 after-written r new was e = simp (eq-eqb (r .code) 0 e)
+
+-- ---- the counts with an answer: 0 under any code but 0, as they are under code 0
+
+pub filled-none : (r : Answer) (n m : ℕ) → (r .code ≡ 0 → ⊥) → filledAs r n m ≡ filled (r .code) (r .place) 0 0
+unfolding filledAs
+filled-none r n m z = simp (ne-eqb (r .code) 0 z)
+
+pub filled-some : (r : Answer) (n m : ℕ) → r .code ≡ 0 → filledAs r n m ≡ filled (r .code) (r .place) n m
+unfolding filledAs
+filled-some r n m e = simp (eq-eqb (r .code) 0 e)
+
+-- its code is the answer's
+pub filled-code : {f : Filled} (r : Answer) (n m : ℕ) → f ≡ filledAs r n m → f .code ≡ r .code
+unfolding filledAs
+filled-code r n m e = ap (λ (f : Filled). f .code) e

@@ -2,7 +2,7 @@
 use mathlib.Core.Path.{_≡_, refl, sym, ap, _∙_}
 use mathlib.Core.Bool.{Bool, true, false, cond}
 use mathlib.Core.List.{List, [], _∷_, _++_, map}
-use mathlib.Core.Option.{Option, none, some, Option·some-injective}
+use mathlib.Core.Option.{Option, none, some}
 use Prim.Native.Nat.{ℕ, suc, _+_, _≤_, _<_}
 use native.Mathlib.Omega.{arith}
 use native.Mathlib.Numerals.{add-one}
@@ -14,12 +14,10 @@ use borrow.Author.Tests.{ltb-true}
 use Rattle.text.specs.Line.{lines, fields}
 use Rattle.text.specs.Text.{Layout, Arc, arc, eventOf, arcOf, Told, rows, wrongHeader, badRecord, judged, with, records, told}
 use Rattle.text.specs.Cursor.{Begun, periodOf, arcRecordOf}
-use Rattle.text.specs.Judge.{isSome}
 use Rattle.text.specs.Fill.{onto, tailsOf, headsOf, lowersOf, uppersOf, weightsOf, ArcsFilled}
 use Rattle.text.specs.declared.Event.{Event}
 use Rattle.text.specs.declared.ArcRecord.{ArcRecord}
 use Rattle.text.proofs.Told.{bad-rows, header-rows, accepted, accepted-some}
-use Rattle.text.proofs.Judges.{event-bad, event-good}
 
 module _ {R : Type 0} (recordOf : ℕ → List (List ℕ) → Option R) (most : ℕ) where
   -- record k is read next, at the place `at`; before it stand the first k rows
@@ -163,13 +161,10 @@ module _ (rs : List Arc) (t h : List ℕ) (l u : List ℤ) (w : List ℕ) where
 
 module _ {text rs line : List ℕ} {next k : ℕ} (f : Next eventOf 64 text rs line next k) (r : Event) (e : r ≡ periodOf (eventOf k (fields line))) where
   pub event-next : (p : ℕ) → r ≡ Event.Period p → p ≡ getD rs k 0
-  event-next p q = Option·some-injective p (f .row) (sym (event-good (eventOf k (fields line)) p (sym e ∙ q)) ∙ f .read) ∙ f .is 0
+  event-next p q = let s : p ≡ f .row = cc in s ∙ f .is 0
 
   pub event-never : r ≡ Event.Bad → ⊥
-  event-never q =
-      let b : isSome (eventOf k (fields line)) ≡ false = event-bad (eventOf k (fields line)) (sym e ∙ q) in
-      let g : isSome (eventOf k (fields line)) ≡ true = ap isSome (f .read) in
-      let z : _≡_ {A = ℕ} 0 1 = cc in omega arith
+  event-never q = let z : _≡_ {A = ℕ} 0 1 = cc in omega arith
 
 module _ {text line : List ℕ} {rs : List Arc} {next k : ℕ} (f : Next arcOf 256 text rs line next k) (r : ArcRecord) (e : r ≡ arcRecordOf (arcOf k (fields line))) where
   named : r ≡ arcRecordOf (some (f .row))

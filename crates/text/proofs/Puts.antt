@@ -20,6 +20,7 @@ use Rattle.numbers.proofs.Bits.{of}
 use Rattle.text.specs.Number.{decimal, decimalℤ}
 use Rattle.text.specs.Line.{joined, broken}
 use Rattle.text.specs.Text.{Arc, arc, arcAt, arcsOf, eventFields, arcFields, Layout, eventLayout, arcLayout, recordLines, printed}
+use Rattle.text.specs.Fill.{onto}
 use Rattle.text.specs.Put.{put, Put, commaAfter, breakAfter, recordLine}
 use Rattle.text.proofs.Numbers.{decimal-few, decimal-more}
 use Rattle.text.proofs.Rows.{arcs-length, arcs-at}
@@ -34,6 +35,12 @@ kept-length {s} {at} {before} h p = ap length (p .is) ∙ put-length at s before
 
 pub put-same : {s t : List ℕ} {at : ℕ} {x y : List ℕ} {next : ℕ} → s ≡ t → Put s at x y next → Put t at x y next
 put-same {at = at} {x = x} {y = y} {next = next} e p = subst (λ (s : List ℕ). Put s at x y next) e p
+
+-- what was put at the beginning stands there
+pub put-onto : {s row is : List ℕ} {next : ℕ} → Put s 0 row is next → (is ≡ onto s row) × (next ≡ length s)
+put-onto {s} {row} p =
+    let z : 0 + length s ≡ length s = omega arith in
+    (p .is ∙ ap (λ (k : ℕ). s ++ drop k row) z, p .place ∙ z)
 
 -- one byte
 put-byte : (row : List ℕ) (at b : ℕ) → at < length row → Put (b ∷ []) at row (set row at b) (at + 1)

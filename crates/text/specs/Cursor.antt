@@ -7,6 +7,7 @@ use Prim.Native.Nat.{ℕ, _+_, _-_, _≤_, _<_}
 use lib.Dec.{eqb, leb}
 use lib.IntN.{ℤ}
 use lib.ListN.{length, take, drop}
+use Rattle.text.specs.Bytes.{comma}
 use Rattle.text.specs.Number.{plain, signed}
 use Rattle.text.specs.Line.{isBreak, lines, fields}
 use Rattle.text.specs.Text.{Arc}
@@ -34,7 +35,7 @@ signedOf (some v) = Signed.Value v
 -- how many bytes stand before the first comma, or the end
 unfoldable pub fieldLength : List ℕ → ℕ
 fieldLength [] = 0
-fieldLength (b ∷ s) = cond (eqb b 44) 0 (fieldLength s + 1)
+fieldLength (b ∷ s) = cond (eqb b comma) 0 (fieldLength s + 1)
 
 -- the fields from a place on; none past the line's end
 unfoldable pub fieldsFrom : List ℕ → ℕ → List (List ℕ)

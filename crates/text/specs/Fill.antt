@@ -38,13 +38,14 @@ pub record Fillable {R : Type 0} (L : Layout R) (text : List ℕ) (room : ℕ) :
   pub accepted : told L text ≡ rows (rowsOf (told L text))
   pub wide : L .most ≤ room
 
--- so in each of the five arc rows
+-- the same of the five arc rows
 pub record ArcsFillable (text t h : List ℕ) (l u : List ℤ) (w : List ℕ) : Type 0 where
-  pub tails : Fillable arcLayout text (length t)
-  pub heads : Fillable arcLayout text (length h)
-  pub lowers : Fillable arcLayout text (length l)
-  pub uppers : Fillable arcLayout text (length u)
-  pub weights : Fillable arcLayout text (length w)
+  pub accepted : told arcLayout text ≡ rows (rowsOf (told arcLayout text))
+  pub tails : arcLayout .most ≤ length t
+  pub heads : arcLayout .most ≤ length h
+  pub lowers : arcLayout .most ≤ length l
+  pub uppers : arcLayout .most ≤ length u
+  pub weights : arcLayout .most ≤ length w
 
 -- the five rows at entry and at exit
 pub record ArcsFilled (rs : List Arc) (t h : List ℕ) (l u : List ℤ) (w : List ℕ) (t′ h′ : List ℕ) (l′ u′ : List ℤ) (w′ : List ℕ) : Type 0 where

@@ -3,6 +3,7 @@ use mathlib.Core.Bool.{Bool, false, cond, _&&_}
 use mathlib.Core.List.{List, [], _∷_, _++_}
 use Prim.Native.Nat.{ℕ}
 use lib.Dec.{eqb}
+use Rattle.text.specs.Bytes.{comma, cr, lf}
 
 -- ---- taken apart
 
@@ -10,7 +11,7 @@ use lib.Dec.{eqb}
 unfoldable pub isBreak : List ℕ → Bool
 isBreak [] = false
 isBreak (b ∷ []) = false
-isBreak (b ∷ c ∷ s) = eqb b 13 && eqb c 10
+isBreak (b ∷ c ∷ s) = eqb b cr && eqb c lf
 
 -- a byte before the first of some parts
 unfoldable pub onFirst : ℕ → List (List ℕ) → List (List ℕ)
@@ -26,7 +27,7 @@ lines (b ∷ c ∷ s) = cond (isBreak (b ∷ c ∷ s)) ([] ∷ lines s) (onFirst
 -- what stands between a line's commas
 unfoldable pub fields : List ℕ → List (List ℕ)
 fields [] = [] ∷ []
-fields (b ∷ s) = cond (eqb b 44) ([] ∷ fields s) (onFirst b (fields s))
+fields (b ∷ s) = cond (eqb b comma) ([] ∷ fields s) (onFirst b (fields s))
 
 -- ---- put together
 
@@ -34,9 +35,9 @@ fields (b ∷ s) = cond (eqb b 44) ([] ∷ fields s) (onFirst b (fields s))
 unfoldable pub joined : List (List ℕ) → List ℕ
 joined [] = []
 joined (f ∷ []) = f
-joined (f ∷ g ∷ fs) = f ++ 44 ∷ joined (g ∷ fs)
+joined (f ∷ g ∷ fs) = f ++ comma ∷ joined (g ∷ fs)
 
 -- lines with CR LF after each
 unfoldable pub broken : List (List ℕ) → List ℕ
 broken [] = []
-broken (l ∷ ls) = l ++ 13 ∷ 10 ∷ broken ls
+broken (l ∷ ls) = l ++ cr ∷ lf ∷ broken ls

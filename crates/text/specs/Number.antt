@@ -5,16 +5,17 @@ use mathlib.Core.Option.{Option, none, some}
 use Prim.Native.Nat.{ℕ, zero, suc, _+_, _*_, _-_, _/_, _%_, _^_}
 use lib.Dec.{leb, ltb, eqb}
 use lib.IntN.{ℤ, pos, negsuc, negℤ}
+use Rattle.text.specs.Bytes.{minusSign, zeroDigit, nineDigit}
 
 -- ---- read: one or more decimal digits, however many
 
 abbrev pub isDigit : ℕ → Bool
-isDigit b = leb 48 b && leb b 57
+isDigit b = leb zeroDigit b && leb b nineDigit
 
 -- the value of digits that follow those of value v; none where a byte is no digit
 unfoldable pub digits : ℕ → List ℕ → Option ℕ
 digits v [] = some v
-digits v (b ∷ s) = cond (isDigit b) (digits (v * 10 + (b - 48)) s) none
+digits v (b ∷ s) = cond (isDigit b) (digits (v * 10 + (b - zeroDigit)) s) none
 
 unfoldable pub number : List ℕ → Option ℕ
 number [] = none
@@ -29,6 +30,7 @@ below m (some v) = cond (ltb v m) (some v) none
 unfoldable pub plain : List ℕ → Option ℕ
 plain f = below (2 ^ 32) (number f)
 
+-- with its sign
 unfoldable pub valued : (ℕ → ℤ) → Option ℕ → Option ℤ
 valued sign none = none
 valued sign (some v) = some (sign v)
@@ -39,19 +41,19 @@ minus v = negℤ (pos v)
 -- a field of a signed 32-bit row: digits, with an optional minus
 unfoldable pub signed : List ℕ → Option ℤ
 signed [] = none
-signed (b ∷ f) = cond (eqb b 45) (valued minus (below (2 ^ 31 + 1) (number f))) (valued pos (below (2 ^ 31) (number (b ∷ f))))
+signed (b ∷ f) = cond (eqb b minusSign) (valued minus (below (2 ^ 31 + 1) (number f))) (valued pos (below (2 ^ 31) (number (b ∷ f))))
 
 -- ---- printed
 
 -- of n, its last k digits or all that it has
 unfoldable pub lastDigits : ℕ → ℕ → List ℕ
 lastDigits zero n = []
-lastDigits (suc k) n = cond (ltb n 10) ((48 + n) ∷ []) (lastDigits k (n / 10) ++ ((48 + n % 10) ∷ []))
+lastDigits (suc k) n = cond (ltb n 10) ((zeroDigit + n) ∷ []) (lastDigits k (n / 10) ++ ((zeroDigit + n % 10) ∷ []))
 
--- n has fewer than n + 2 digits
+-- n has at most n + 1 digits
 unfoldable pub decimal : ℕ → List ℕ
 decimal n = lastDigits (suc n) n
 
 unfoldable pub decimalℤ : ℤ → List ℕ
 decimalℤ (pos n) = decimal n
-decimalℤ (negsuc n) = 45 ∷ decimal (suc n)
+decimalℤ (negsuc n) = minusSign ∷ decimal (suc n)

@@ -4,6 +4,7 @@ use mathlib.Core.List.{List, [], _∷_, _++_}
 use Prim.Native.Nat.{ℕ, _+_, _≤_}
 use lib.IntN.{ℤ}
 use lib.ListN.{length, take, drop}
+use Rattle.text.specs.Bytes.{comma, cr, lf}
 use Rattle.text.specs.Number.{decimal}
 use Rattle.text.specs.Line.{joined}
 use Rattle.text.specs.Text.{Layout}
@@ -19,10 +20,10 @@ pub record Put (s : List ℕ) (at : ℕ) (before after : List ℕ) (next : ℕ) 
 
 -- a field with the comma after it, and the last with its line break
 abbrev pub commaAfter : List ℕ → List ℕ
-commaAfter f = f ++ 44 ∷ []
+commaAfter f = f ++ comma ∷ []
 
 abbrev pub breakAfter : List ℕ → List ℕ
-breakAfter f = f ++ 13 ∷ 10 ∷ []
+breakAfter f = f ++ cr ∷ lf ∷ []
 
 -- the line of record k, with its line break
 abbrev pub recordLine : {R : Type 0} → Layout R → ℕ → R → List ℕ

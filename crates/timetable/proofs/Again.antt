@@ -1,6 +1,6 @@
 -- Two accepted texts, printed again, read back to equal rows: of the three calls' contracts alone. Assumes nothing.
 use mathlib.Core.Path.{_≡_, refl, sym, ap, _∙_}
-use mathlib.Core.Bool.{Bool, false, cond}
+use mathlib.Core.Bool.{false}
 use mathlib.Core.List.{List, map}
 use Prim.Native.Nat.{ℕ, _≤_}
 use borrow.Author.Tests.{le-ltb, eq-eqb}
@@ -11,15 +11,15 @@ use Rattle.network.specs.declared.Filled.{Filled}
 use Rattle.network.specs.Network.{Network, net}
 use Rattle.network.specs.Refusals.{answer, filled, after, filledAs}
 use Rattle.network.specs.Table.{outside, uneven}
-use Rattle.network.proofs.Refusing.{after-written}
+use Rattle.network.proofs.Refusing.{after-written, filled-some, filled-code}
 use Rattle.text.specs.Text.{Arc, eventLayout, arcLayout, rows, told, printed}
 use Rattle.text.specs.Fill.{rowsOf, onto, tailsOf, headsOf, lowersOf, uppersOf, weightsOf}
 use Rattle.text.proofs.Rows.{arcs-back}
 use Rattle.text.proofs.RoundTrip.{events-again, arcs-again, events-count, arcs-count}
-use Rattle.timetable.specs.ReadText.{readOf, periodsIn, arcsIn, Read}
+use Rattle.timetable.specs.ReadText.{crampedIn, readOf, periodsIn, arcsIn, Read}
 use Rattle.timetable.specs.PrintText.{eventsText, arcsText, printOf, Printed}
 use Rattle.timetable.proofs.PrintTexts.{outsideIn, unevenIn, print-0}
-use Rattle.timetable.proofs.ReadTexts.{crampedIn, Accepts, accepts-read, read-accepts}
+use Rattle.timetable.proofs.ReadTexts.{Accepts, accepts-read, read-accepts}
 
 -- the first n events and m arcs of six rows: what a call filled
 abbrev pub cut : ℕ → ℕ → Network → Network
@@ -38,11 +38,10 @@ record Counted (r : Filled) (o : Answer) (n m : ℕ) : Type 0 where
   arcs : r .arcs ≡ m
 
 counted : {r : Filled} (o : Answer) (n m : ℕ) → r ≡ filledAs o n m → r .code ≡ 0 → Counted r o n m
-unfolding filledAs
 counted {r} o n m e z =
-    let c : o .code ≡ 0 = sym (ap (λ (f : Filled). f .code) e) ∙ z in
-    let p : filledAs o n m ≡ filled (o .code) (o .place) n m = ap (λ (b : Bool). filled (o .code) (o .place) (cond b n 0) (cond b m 0)) (eq-eqb (o .code) 0 c) in
-    record { code = c; events = ap (λ (f : Filled). f .events) (e ∙ p); arcs = ap (λ (f : Filled). f .arcs) (e ∙ p) }
+    let c : o .code ≡ 0 = sym (filled-code o n m e) ∙ z in
+    let f : r ≡ filled (o .code) (o .place) n m = e ∙ filled-some o n m c in
+    record { code = c; events = ap (λ (g : Filled). g .events) f; arcs = ap (λ (g : Filled). g .arcs) f }
 
 -- a row that was filled, cut to what was filled
 cut-row : {A : Type 0} {is : List A} {n : ℕ} (o : Answer) (new was : List A) → o .code ≡ 0 → n ≡ length new → is ≡ after o (onto new was) was → take n is ≡ new
@@ -59,8 +58,8 @@ module _ {E A : List ℕ} {N N₁ : Network} {r : Filled} (p : Read E A N N₁ r
   read-told = read-accepts E A N (read-counted .code)
 
   read-answer : r ≡ filled 0 0 (length (periodsIn E)) (length (arcsIn A))
-  unfolding filledAs
-  read-answer = p .answer ∙ ap (λ (o : Answer). filledAs o (length (periodsIn E)) (length (arcsIn A))) (accepts-read E A N read-told)
+  read-answer =
+      p .answer ∙ ap (λ (o : Answer). filledAs o (length (periodsIn E)) (length (arcsIn A))) (accepts-read E A N read-told) ∙ filled-some (answer 0 0 0) _ _ refl
 
   column : {B : Type 0} {is : List B} (f : Arc → B) (was : List B) → is ≡ after (readOf E A N) (onto (map f (arcsIn A)) was) was → take (r .arcs) is ≡ map f (arcsIn A)
   column f was e = cut-row (readOf E A N) (map f (arcsIn A)) was (read-counted .code) (read-counted .arcs ∙ sym (length-map (arcsIn A) f)) e
@@ -122,9 +121,8 @@ module _ {E A E₂ A₂ : List ℕ} {N N₁ M M₁ : Network} {r q : Filled} (p 
   rs = ap rowsOf a
 
   code : q .code ≡ 0
-  unfolding filledAs
   code =
-      ap (λ (f : Filled). f .code) (b .answer)
+      filled-code (readOf E₂ A₂ M) _ _ (b .answer)
       ∙ ap (λ (o : Answer). o .code) (accepts-read E₂ A₂ M (record { room = room; events = e ∙ ap rows (sym ps); arcs = a ∙ ap rows (sym rs) }))
 
   told-same : (q ≡ r) × (cut (q .events) (q .arcs) M₁ ≡ cut (r .events) (r .arcs) N₁)

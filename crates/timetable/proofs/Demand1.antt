@@ -6,8 +6,7 @@ use lib.IntN.{ℤ}
 use Rattle.network.specs.declared.Answer.{Answer}
 use Rattle.network.specs.declared.Filled.{Filled}
 use Rattle.network.specs.Network.{Network, net}
-use Rattle.network.specs.Refusals.{filledAs}
-use Rattle.network.proofs.Refusing.{after-kept}
+use Rattle.network.proofs.Refusing.{after-kept, filled-code}
 use Rattle.timetable.specs.Measure.{Measured}
 use Rattle.timetable.specs.PrintText.{printOf, Printed}
 use Rattle.timetable.specs.ReadText.{readOf, Read}
@@ -33,16 +32,14 @@ rebuild-kept n (judged z (impossible k h c m e a)) = e
 rebuild-kept n (judged z (restored t p e a)) = absurd (n (ap (λ (o : Answer). o .code) a))
 
 pub read-kept : {E A : List ℕ} {N N′ : Network} {r : Filled} → (r .code ≡ 0 → ⊥) → Read E A N N′ r → N′ ≡ N
-unfolding filledAs
 read-kept {E} {A} {N} n p =
     let o : Answer = readOf E A N in
-    let m : o .code ≡ 0 → ⊥ = λ z. n (ap (λ (f : Filled). f .code) (p .answer) ∙ z) in
+    let m : o .code ≡ 0 → ⊥ = λ z. n (filled-code o _ _ (p .answer) ∙ z) in
     λ i. net ((p .periods ∙ after-kept o _ _ m) i) ((p .tails ∙ after-kept o _ _ m) i) ((p .heads ∙ after-kept o _ _ m) i)
     ((p .lowers ∙ after-kept o _ _ m) i) ((p .uppers ∙ after-kept o _ _ m) i) ((p .weights ∙ after-kept o _ _ m) i)
 
 pub print-kept : {N : Network} {E A E′ A′ : List ℕ} {r : Filled} → (r .code ≡ 0 → ⊥) → Printed N E A E′ A′ r → (E′ ≡ E) × (A′ ≡ A)
-unfolding filledAs
 print-kept {N} {E} {A} n p =
     let o : Answer = printOf N E A in
-    let m : o .code ≡ 0 → ⊥ = λ z. n (ap (λ (f : Filled). f .code) (p .answer) ∙ z) in
+    let m : o .code ≡ 0 → ⊥ = λ z. n (filled-code o _ _ (p .answer) ∙ z) in
     (p .events ∙ after-kept o _ _ m, p .arcs ∙ after-kept o _ _ m)

@@ -1,23 +1,23 @@
 -- The answers of printing, one law for each way out, and the rows of bytes with each. Assumes nothing.
-use mathlib.Core.Path.{_≡_, sym, ap, _∙_}
-use mathlib.Core.Bool.{Bool, true, false, cond, _||_}
-use mathlib.Core.List.{List, _++_}
-use Prim.Native.Nat.{ℕ, _+_, _≤_, _<_}
+use mathlib.Core.Path.{_≡_, refl, sym, ap, _∙_}
+use mathlib.Core.Bool.{Bool, true, false, _||_}
+use mathlib.Core.List.{List}
+use Prim.Native.Nat.{ℕ, _≤_, _<_}
 use native.Mathlib.Omega.{arith}
-use borrow.Author.Tests.{lt-ltb, le-ltb, ne-eqb}
+use borrow.Author.Tests.{lt-ltb, le-ltb}
 use lib.Dec.{ltb}
-use lib.ListN.{length, drop}
+use lib.ListN.{length}
 use Rattle.network.specs.declared.Answer.{Answer}
 use Rattle.network.specs.declared.Filled.{Filled}
 use Rattle.network.specs.Network.{Network, events, arcs}
 use Rattle.network.specs.Refusals.{answer, filled, filledAs}
 use Rattle.network.specs.Table.{outside, uneven, refusalsWith}
 use Rattle.network.specs.Trial.{named}
-use Rattle.network.proofs.Refusing.{once-refused, once-clear, refuses, succeeds, after-kept, after-written}
+use Rattle.network.proofs.Refusing.{once-refused, once-clear, refuses, succeeds, after-kept, after-written, filled-none, filled-some}
 use Rattle.network.proofs.Refusing.AllClear.{none, more}
 use Rattle.network.proofs.Sound.{even-of}
-use Rattle.text.specs.Fill.{onto}
 use Rattle.text.specs.Put.{Put, FiveRows}
+use Rattle.text.proofs.Puts.{put-onto}
 use Rattle.timetable.specs.PrintText.{eventsText, arcsText, printRefusals, printOf, Printed}
 
 -- the tests of the two lines of the network's table
@@ -70,32 +70,23 @@ module _ (N : Network) (E A : List ℕ) where
   -- ---- the answer and the rows together
 
   pub print-not : {r : Filled} {c : ℕ} → 0 < c → r ≡ filled c 0 0 0 → answer c 0 0 ≡ printOf N E A → Printed N E A E A r
-  unfolding filledAs
   print-not {r} {c} h f e =
       let n : c ≡ 0 → ⊥ = λ z. omega arith in
       let k : printOf N E A .code ≡ 0 → ⊥ = λ z. n (ap (λ (o : Answer). o .code) e ∙ z) in
       record {
-        answer = f ∙ sym (ap (λ (b : Bool). filled c 0 (cond b (length (eventsText N)) 0) (cond b (length (arcsText N)) 0)) (ne-eqb c 0 n))
-            ∙ ap (λ (o : Answer). filledAs o (length (eventsText N)) (length (arcsText N))) e;
+        answer = f ∙ sym (filled-none (answer c 0 0) _ _ n) ∙ ap (λ (o : Answer). filledAs o (length (eventsText N)) (length (arcsText N))) e;
         events = sym (after-kept (printOf N E A) _ _ k);
         arcs = sym (after-kept (printOf N E A) _ _ k);
       }
 
-  -- what was put at the beginning stands there
-  put-onto : {s row is : List ℕ} {next : ℕ} → Put s 0 row is next → (is ≡ onto s row) × (next ≡ length s)
-  put-onto {s} {row} p =
-      let z : 0 + length s ≡ length s = omega arith in
-      (p .is ∙ ap (λ (k : ℕ). s ++ drop k row) z, p .place ∙ z)
-
   pub print-both : {E′ A′ : List ℕ} {n m : ℕ} → answer 0 0 0 ≡ printOf N E A → Put (eventsText N) 0 E E′ n → Put (arcsText N) 0 A A′ m
       → Printed N E A E′ A′ (filled 0 0 n m)
-  unfolding filledAs
   print-both e p q =
       let z : printOf N E A .code ≡ 0 = ap (λ (o : Answer). o .code) (sym e) in
       let x = put-onto p in
       let y = put-onto q in
       record {
-        answer = (λ i. filled 0 0 (x .1 i) (y .1 i)) ∙ ap (λ (o : Answer). filledAs o (length (eventsText N)) (length (arcsText N))) e;
+        answer = (λ i. filled 0 0 (x .1 i) (y .1 i)) ∙ sym (filled-some (answer 0 0 0) _ _ refl) ∙ ap (λ (o : Answer). filledAs o (length (eventsText N)) (length (arcsText N))) e;
         events = x .0 ∙ sym (after-written (printOf N E A) _ _ z);
         arcs = y .0 ∙ sym (after-written (printOf N E A) _ _ z);
       }

@@ -2,29 +2,30 @@
 use mathlib.Core.Path.{_≡_, refl, sym, ap, _∙_}
 use mathlib.Core.Bool.{Bool, true, false, cond}
 use mathlib.Core.List.{List}
-use Prim.Native.Nat.{ℕ, _≤_}
+use Prim.Native.Nat.{ℕ, zero, suc, _≤_}
 use native.Mathlib.Omega.{arith}
+use native.Mathlib.Numerals.{add-one}
 use borrow.Author.Tests.{ltb-false, ne-eqb, eq-eqb, eqb-true, eqb-false}
 use lib.Dec.{ltb, eqb}
 use lib.IntN.{ℤ}
-use lib.ListN.{length}
+use lib.ListN.{length, getD, set}
+use lib.Seq.{paste}
 use Rattle.network.specs.declared.Answer.{Answer}
 use Rattle.network.specs.declared.Filled.{Filled}
 use Rattle.network.specs.Network.{Network, net}
 use Rattle.network.specs.Refusals.{answer, filled, after, filledAs}
-use Rattle.network.proofs.Refusing.{after-kept, after-written}
+use Rattle.network.specs.Rows.{written}
+use Rattle.network.proofs.Refusing.{after-kept, after-written, filled-none, filled-some}
 use Rattle.network.proofs.Sound.{neither}
 use Rattle.text.specs.declared.Judged.{Judged}
 use Rattle.text.specs.Text.{eventLayout, arcLayout, Told, rows, told}
 use Rattle.text.specs.Judge.{tally}
 use Rattle.text.specs.Fill.{onto, Fillable, ArcsFillable, ArcsFilled}
 use Rattle.text.proofs.Judges.{tally-rows, tally-count}
-use Rattle.timetable.specs.ReadText.{cramped, faultOf, orElse, readOf, periodsIn, arcsIn, Read}
+use Rattle.text.proofs.Fills.{onto-start, onto-more, onto-end}
+use Rattle.timetable.specs.ReadText.{cramped, crampedIn, faultOf, orElse, readOf, periodsIn, arcsIn, Read}
 
--- the rows' lengths
-abbrev pub crampedIn : Network → Bool
-crampedIn N = cramped (length (N .periods)) (length (N .tails)) (length (N .heads)) (length (N .lowers)) (length (N .uppers)) (length (N .weights))
-
+-- no row is too short
 record Roomy (N : Network) : Type 0 where
   periods : 64 ≤ length (N .periods)
   tails : 256 ≤ length (N .tails)
@@ -123,14 +124,14 @@ module _ (E A : List ℕ) (N : Network) where
   pub arcs-fillable : crampedIn N ≡ false → {k : Judged} → k ≡ tally 1 (told arcLayout A) → k .code ≡ 0
       → ArcsFillable A (N .tails) (N .heads) (N .lowers) (N .uppers) (N .weights)
   arcs-fillable room g z =
-      let a = tally-rows 1 (told arcLayout A) (ap (λ (r : Judged). r .code) (sym g) ∙ z) in
       let w = roomy N room in
       record {
-        tails = record { accepted = a; wide = w .tails };
-        heads = record { accepted = a; wide = w .heads };
-        lowers = record { accepted = a; wide = w .lowers };
-        uppers = record { accepted = a; wide = w .uppers };
-        weights = record { accepted = a; wide = w .weights };
+        accepted = tally-rows 1 (told arcLayout A) (ap (λ (r : Judged). r .code) (sym g) ∙ z);
+        tails = w .tails;
+        heads = w .heads;
+        lowers = w .lowers;
+        uppers = w .uppers;
+        weights = w .weights;
       }
 
   -- ---- the answer and the rows together
@@ -139,10 +140,8 @@ module _ (E A : List ℕ) (N : Network) where
   kept new was n e = sym (after-kept (readOf E A N) new was (λ z. n (ap (λ (o : Answer). o .code) (sym e) ∙ z)))
 
   pub read-not : {r : Filled} {c p : ℕ} → (c ≡ 0 → ⊥) → r ≡ filled c p 0 0 → readOf E A N ≡ answer c p 0 → Read E A N N r
-  unfolding filledAs
   read-not {r} {c} {p} n f e = record {
-    answer = f ∙ sym (ap (λ (o : Answer). filledAs o (length (periodsIn E)) (length (arcsIn A))) e
-        ∙ ap (λ (b : Bool). filled c p (cond b (length (periodsIn E)) 0) (cond b (length (arcsIn A)) 0)) (ne-eqb c 0 n));
+    answer = f ∙ sym (ap (λ (o : Answer). filledAs o (length (periodsIn E)) (length (arcsIn A))) e ∙ filled-none (answer c p 0) _ _ n);
     periods = kept _ _ n e;
     tails = kept _ _ n e;
     heads = kept _ _ n e;
@@ -151,23 +150,33 @@ module _ (E A : List ℕ) (N : Network) where
     weights = kept _ _ n e;
   }
 
-  written : {B : Type 0} {is : List B} (new was : List B) → readOf E A N ≡ answer 0 0 0 → is ≡ new → is ≡ after (readOf E A N) new was
-  written new was e f = f ∙ sym (after-written (readOf E A N) new was (ap (λ (o : Answer). o .code) e))
+  stored : {B : Type 0} {is : List B} (new was : List B) → readOf E A N ≡ answer 0 0 0 → is ≡ new → is ≡ after (readOf E A N) new was
+  stored new was e f = f ∙ sym (after-written (readOf E A N) new was (ap (λ (o : Answer). o .code) e))
 
   pub read-0 : {ps ts hs : List ℕ} {ls us : List ℤ} {ws : List ℕ} {j k : Judged} → readOf E A N ≡ answer 0 0 0
       → j ≡ tally 0 (told eventLayout E) → k ≡ tally 1 (told arcLayout A)
       → ps ≡ onto (periodsIn E) (N .periods) → ArcsFilled (arcsIn A) (N .tails) (N .heads) (N .lowers) (N .uppers) (N .weights) ts hs ls us ws
       → Read E A N (net ps ts hs ls us ws) (filled 0 0 (j .records) (k .records))
-  unfolding filledAs
   read-0 {j = j} {k = k} e f g p a =
       let n : j .records ≡ length (periodsIn E) = ap (λ (r : Judged). r .records) f ∙ tally-count 0 (told eventLayout E) in
       let m : k .records ≡ length (arcsIn A) = ap (λ (r : Judged). r .records) g ∙ tally-count 1 (told arcLayout A) in
       record {
-        answer = (λ i. filled 0 0 (n i) (m i)) ∙ sym (ap (λ (o : Answer). filledAs o (length (periodsIn E)) (length (arcsIn A))) e);
-        periods = written _ _ e p;
-        tails = written _ _ e (a .tails);
-        heads = written _ _ e (a .heads);
-        lowers = written _ _ e (a .lowers);
-        uppers = written _ _ e (a .uppers);
-        weights = written _ _ e (a .weights);
+        answer = (λ i. filled 0 0 (n i) (m i)) ∙ sym (ap (λ (o : Answer). filledAs o (length (periodsIn E)) (length (arcsIn A))) e ∙ filled-some (answer 0 0 0) _ _ refl);
+        periods = stored _ _ e p;
+        tails = stored _ _ e (a .tails);
+        heads = stored _ _ e (a .heads);
+        lowers = stored _ _ e (a .lowers);
+        uppers = stored _ _ e (a .uppers);
+        weights = stored _ _ e (a .weights);
       }
+
+-- ---- a row filled from a list, in the word of the calls that write a row entry by entry
+
+pub onto-written : {A : Type 0} (xs row : List A) (d : A) → length xs ≤ length row → onto xs row ≡ written (λ k. getD xs k d) (length xs) row
+unfolding written
+onto-written {A} xs row d room = sym (first (length xs) (omega arith) ∙ onto-end xs row (length xs) refl)
+  where
+    first : (k : ℕ) → k ≤ length xs → written (λ j. getD xs j d) k row ≡ paste row 0 xs k
+    first zero h = onto-start xs row
+    first (suc k) h =
+        ap (λ (l : List A). set l k (getD xs k d)) (first k (omega arith)) ∙ onto-more xs row k d (omega arith) (omega arith) ∙ ap (paste row 0 xs) (add-one k)

@@ -19,6 +19,9 @@ unfoldable pub cramped : ℕ → ℕ → ℕ → ℕ → ℕ → ℕ → Bool
 cramped periods tails heads lowers uppers weights =
     ltb periods 64 || (ltb tails 256 || (ltb heads 256 || (ltb lowers 256 || (ltb uppers 256 || ltb weights 256))))
 
+abbrev pub crampedIn : Network → Bool
+crampedIn N = cramped (length (N .periods)) (length (N .tails)) (length (N .heads)) (length (N .lowers)) (length (N .uppers)) (length (N .weights))
+
 -- the fault of a text, at its place; code 0 where the text is accepted
 abbrev pub faultOf : Judged → Answer
 faultOf j = answer (j .code) (j .place) 0
@@ -29,10 +32,7 @@ orElse r s = cond (eqb (r .code) 0) s r
 
 -- 9, then the events text, then the arcs text
 unfoldable pub readOf : List ℕ → List ℕ → Network → Answer
-readOf E A N =
-    cond (cramped (length (N .periods)) (length (N .tails)) (length (N .heads)) (length (N .lowers)) (length (N .uppers)) (length (N .weights)))
-    (answer 9 0 0)
-    (orElse (faultOf (tally 0 (told eventLayout E))) (faultOf (tally 1 (told arcLayout A))))
+readOf E A N = cond (crampedIn N) (answer 9 0 0) (orElse (faultOf (tally 0 (told eventLayout E))) (faultOf (tally 1 (told arcLayout A))))
 
 -- the periods, and the arcs, that a text tells
 abbrev pub periodsIn : List ℕ → List ℕ

@@ -43,25 +43,25 @@ most : (c : tie.At-loop Inv-loop μ-loop) (room : ℕ) → 256 ≤ room → c .l
 most c room h = omega (arith, c .loop .inv .0 .under)
 
 kept-tail : (c : tie.At-loop Inv-loop μ-loop) → length (c .loop .tail) ≡ length (entry c .args .tail .now)
-kept-tail c = column-length (λ a. a .tail) (rowsIn (entry c .args .text .now)) (entry c .args .tail .now) (c .loop .inv .1 .tails) (c .loop .inv .0 .few) (most c _ (entry c .pre .tails .wide))
+kept-tail c = column-length (λ a. a .tail) (rowsIn (entry c .args .text .now)) (entry c .args .tail .now) (c .loop .inv .1 .tails) (c .loop .inv .0 .few) (most c _ (entry c .pre .tails))
 
 kept-head : (c : tie.At-loop Inv-loop μ-loop) → length (c .loop .head) ≡ length (entry c .args .head .now)
-kept-head c = column-length (λ a. a .head) (rowsIn (entry c .args .text .now)) (entry c .args .head .now) (c .loop .inv .1 .heads) (c .loop .inv .0 .few) (most c _ (entry c .pre .heads .wide))
+kept-head c = column-length (λ a. a .head) (rowsIn (entry c .args .text .now)) (entry c .args .head .now) (c .loop .inv .1 .heads) (c .loop .inv .0 .few) (most c _ (entry c .pre .heads))
 
 kept-lower : (c : tie.At-loop Inv-loop μ-loop) → length (c .loop .lower) ≡ length (entry c .args .lower .now)
-kept-lower c = column-length (λ a. a .lower) (rowsIn (entry c .args .text .now)) (entry c .args .lower .now) (c .loop .inv .1 .lowers) (c .loop .inv .0 .few) (most c _ (entry c .pre .lowers .wide))
+kept-lower c = column-length (λ a. a .lower) (rowsIn (entry c .args .text .now)) (entry c .args .lower .now) (c .loop .inv .1 .lowers) (c .loop .inv .0 .few) (most c _ (entry c .pre .lowers))
 
 kept-upper : (c : tie.At-loop Inv-loop μ-loop) → length (c .loop .upper) ≡ length (entry c .args .upper .now)
-kept-upper c = column-length (λ a. a .upper) (rowsIn (entry c .args .text .now)) (entry c .args .upper .now) (c .loop .inv .1 .uppers) (c .loop .inv .0 .few) (most c _ (entry c .pre .uppers .wide))
+kept-upper c = column-length (λ a. a .upper) (rowsIn (entry c .args .text .now)) (entry c .args .upper .now) (c .loop .inv .1 .uppers) (c .loop .inv .0 .few) (most c _ (entry c .pre .uppers))
 
 kept-weight : (c : tie.At-loop Inv-loop μ-loop) → length (c .loop .weight) ≡ length (entry c .args .weight .now)
-kept-weight c = column-length (λ a. a .weight) (rowsIn (entry c .args .text .now)) (entry c .args .weight .now) (c .loop .inv .1 .weights) (c .loop .inv .0 .few) (most c _ (entry c .pre .weights .wide))
+kept-weight c = column-length (λ a. a .weight) (rowsIn (entry c .args .text .now)) (entry c .args .weight .now) (c .loop .inv .1 .weights) (c .loop .inv .0 .few) (most c _ (entry c .pre .weights))
 
 after-header-requires : tie.Need-after-header-requires Inv-loop μ-loop
 after-header-requires c κs = search needs
 
 loop-holds : tie.Need-loop-holds Inv-loop μ-loop
-loop-holds c = (filling-begun arcLayout _ _ (c .before .before .before .before .before .pre .tails .accepted) (c .after-header .ensures), arcs-start _ _ _ _ _ _)
+loop-holds c = (filling-begun arcLayout _ _ (c .before .before .before .before .before .pre .accepted) (c .after-header .ensures), arcs-start _ _ _ _ _ _)
 
 read-from-requires : tie.Need-read-from-requires Inv-loop μ-loop
 read-from-requires c κs = search needs
@@ -132,31 +132,31 @@ mul-tail : tie.Need-mul-tail Inv-loop μ-loop
 mul-tail c = omega (arith, step (c .before .before .before .before .before .before) .under)
 
 slice-write-tail : tie.Need-slice-write-tail Inv-loop μ-loop
-slice-write-tail c = omega (arith, step (c .before .before .before .before .before .before) .under, kept-tail (c .before .before .before .before .before .before .before .before .before), entry (c .before .before .before .before .before .before .before .before .before) .pre .tails .wide)
+slice-write-tail c = omega (arith, step (c .before .before .before .before .before .before) .under, kept-tail (c .before .before .before .before .before .before .before .before .before), entry (c .before .before .before .before .before .before .before .before .before) .pre .tails)
 
 mul-head : tie.Need-mul-head Inv-loop μ-loop
 mul-head c = omega (arith, step (c .before .before .before .before .before .before) .under)
 
 slice-write-head : tie.Need-slice-write-head Inv-loop μ-loop
-slice-write-head c = omega (arith, step (c .before .before .before .before .before .before) .under, kept-head (c .before .before .before .before .before .before .before .before .before), entry (c .before .before .before .before .before .before .before .before .before) .pre .heads .wide)
+slice-write-head c = omega (arith, step (c .before .before .before .before .before .before) .under, kept-head (c .before .before .before .before .before .before .before .before .before), entry (c .before .before .before .before .before .before .before .before .before) .pre .heads)
 
 mul-l : tie.Need-mul-l Inv-loop μ-loop
 mul-l c = omega (arith, step (c .before .before .before .before .before .before) .under)
 
 slice-set-from-l : tie.Need-slice-set-from-l Inv-loop μ-loop
-slice-set-from-l c = omega (arith, step (c .before .before .before .before .before .before) .under, kept-lower (c .before .before .before .before .before .before .before .before .before), entry (c .before .before .before .before .before .before .before .before .before) .pre .lowers .wide)
+slice-set-from-l c = omega (arith, step (c .before .before .before .before .before .before) .under, kept-lower (c .before .before .before .before .before .before .before .before .before), entry (c .before .before .before .before .before .before .before .before .before) .pre .lowers)
 
 mul-u : tie.Need-mul-u Inv-loop μ-loop
 mul-u c = omega (arith, step (c .before .before .before .before .before .before) .under)
 
 slice-set-from-u : tie.Need-slice-set-from-u Inv-loop μ-loop
-slice-set-from-u c = omega (arith, step (c .before .before .before .before .before .before) .under, kept-upper (c .before .before .before .before .before .before .before .before .before), entry (c .before .before .before .before .before .before .before .before .before) .pre .uppers .wide)
+slice-set-from-u c = omega (arith, step (c .before .before .before .before .before .before) .under, kept-upper (c .before .before .before .before .before .before .before .before .before), entry (c .before .before .before .before .before .before .before .before .before) .pre .uppers)
 
 mul-weight : tie.Need-mul-weight Inv-loop μ-loop
 mul-weight c = omega (arith, step (c .before .before .before .before .before .before) .under)
 
 slice-write-weight : tie.Need-slice-write-weight Inv-loop μ-loop
-slice-write-weight c = omega (arith, step (c .before .before .before .before .before .before) .under, kept-weight (c .before .before .before .before .before .before .before .before .before), entry (c .before .before .before .before .before .before .before .before .before) .pre .weights .wide)
+slice-write-weight c = omega (arith, step (c .before .before .before .before .before .before) .under, kept-weight (c .before .before .before .before .before .before .before .before .before), entry (c .before .before .before .before .before .before .before .before .before) .pre .weights)
 
 add-k : tie.Need-add-k Inv-loop μ-loop
 add-k c = omega (arith, step (c .before .before .before .before .before .before) .under)
@@ -175,7 +175,7 @@ loop-again c =
       record { within = h .more; few = omega (arith, f .inside); under = omega (arith, f .under); left = f .more },
       arcs-more _ _ _ _ _ _ (l .loop .inv .1) (arc-next f _ (c .before .before .before .arc-of .ensures) _ _ _ _ _ (c .before .t .given .1))
           (toZ-ofZ w32 _ (record { sfits = fits .1 .1 .0 .1 })) (toZ-ofZ w32 _ (record { sfits = fits .1 .1 .1 .0 .1 })) (f .inside)
-          (omega (arith, s .pre .tails .wide)) (omega (arith, s .pre .heads .wide)) (omega (arith, s .pre .lowers .wide)) (omega (arith, s .pre .uppers .wide)) (omega (arith, s .pre .weights .wide)),
+          (omega (arith, s .pre .tails)) (omega (arith, s .pre .heads)) (omega (arith, s .pre .lowers)) (omega (arith, s .pre .uppers)) (omega (arith, s .pre .weights)),
     )
 
 pub fill-arcs-spec : {M : Type 1} → statement M
