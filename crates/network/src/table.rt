@@ -145,9 +145,10 @@ pub fn refusal(
 ) -> Answer
     ensures { λ r. ⌜ r ≡ refusalOf (netOf (periods .entry) (tail .entry) (head .entry) (lower .entry) (upper .entry) (weight .entry)) further ⌝ }
 {
+    let order = ORDER;
     let mut k = 0;
-    while k < ORDER.len() {
-        let code = ORDER[k];
+    while k < order.len() {
+        let code = order[k];
         let count = places(code, periods.len(), tail.len());
         let place = first_place(
             periods,

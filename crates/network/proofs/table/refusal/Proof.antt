@@ -13,10 +13,10 @@ use Rattle.network.proofs.table.refusal.Statement.{statement}
 use Rattle.network.proofs.table.refusal.Tie as tie
 
 abbrev Inv-loop : tie.InvT-loop
-Inv-loop periods tail head lower upper weight further k₀ k = (k ≤ length order) × Tried (net periods tail head lower upper weight) further k
+Inv-loop periods tail head lower upper weight further order₀ k₀ k = (k ≤ length order) × Tried (net periods tail head lower upper weight) further k
 
 abbrev μ-loop : tie.MeasureT-loop
-μ-loop periods tail head lower upper weight further k₀ k = length order - k
+μ-loop periods tail head lower upper weight further order₀ k₀ k = length order - k
 
 abbrev start : tie.At-loop Inv-loop μ-loop → tie.Start Inv-loop μ-loop
 start c = c .before .before .before .before .before
