@@ -75,8 +75,11 @@ struct rubblewaltz_answer rubblewaltz_check(
     const uint32_t *times, size_t times_length);
 
 /*
- * The tensions and the cost of a timetable, whether its arcs are met or not. Reads n times; writes
- * tensions 0 to m less 1, the rest of a longer row is kept. Codes 0 with the cost, 1 to 9, 14.
+ * The tensions, the turns and the cost of a timetable, whether its arcs are met or not. The turn of
+ * an arc is the whole number z, from -14400 to 14400, with tension equal to head time less tail
+ * time plus z times g, where g is the greatest common divisor of the periods at its ends. Reads n
+ * times; writes tensions and turns 0 to m less 1, the rest of longer rows is kept. Codes 0 with the
+ * cost, 1 to 9, 14.
  */
 struct rubblewaltz_answer rubblewaltz_measure(
     const uint32_t *periods, size_t periods_length,
@@ -86,11 +89,12 @@ struct rubblewaltz_answer rubblewaltz_measure(
     const int32_t *upper, size_t upper_length,
     const uint32_t *weight, size_t weight_length,
     const uint32_t *times, size_t times_length,
-    int32_t *tensions, size_t tensions_length);
+    int32_t *tensions, size_t tensions_length,
+    int32_t *turns, size_t turns_length);
 
 /*
- * The smallest feasible timetable. Writes times 0 to n less 1 and tensions 0 to m less 1, the rest
- * of longer rows is kept. Codes 0 with the cost, 1 to 10. It has no time limit.
+ * The smallest feasible timetable. Writes times 0 to n less 1, and tensions and turns 0 to m less
+ * 1, the rest of longer rows is kept. Codes 0 with the cost, 1 to 10. It has no time limit.
  */
 struct rubblewaltz_answer rubblewaltz_solve(
     const uint32_t *periods, size_t periods_length,
@@ -100,7 +104,8 @@ struct rubblewaltz_answer rubblewaltz_solve(
     const int32_t *upper, size_t upper_length,
     const uint32_t *weight, size_t weight_length,
     uint32_t *times, size_t times_length,
-    int32_t *tensions, size_t tensions_length);
+    int32_t *tensions, size_t tensions_length,
+    int32_t *turns, size_t turns_length);
 
 /*
  * The timetable of these tensions, with the lowest event of each connected part at 0. Reads m

@@ -1,12 +1,12 @@
 /*
  * Makes the calls that come over standard input, for a host of another processor.
  *
- * A request is the call's number and the sizes of the eight rows in bytes, as 32-bit words, then
+ * A request is the call's number and the sizes of the nine rows in bytes, as 32-bit words, then
  * the rows and a fence. The reply is the answer, then rows and fence as the call left them.
  */
 #include "rubblewaltz.h"
 
-enum { ROWS = 8, FENCE = 8, SPACE = 1 << 18 };
+enum { ROWS = 9, FENCE = 8, SPACE = 1 << 18 };
 enum { CHECK, MEASURE, SOLVE, REBUILD, READ, PRINT };
 enum { READ_CALL = 0, WRITE_CALL = 1, INPUT = 0, OUTPUT = 1 };
 
@@ -52,6 +52,7 @@ static size_t place_rows(void *row[ROWS]) {
 #define NETWORK WORDS(0), WORDS(1), WORDS(2), WORDS(3), WORDS(4), WORDS(5)
 #define TIMES WORDS(6)
 #define TENSIONS WORDS(7)
+#define TURNS WORDS(8)
 #define TEXTS BYTES(6), BYTES(7)
 
 static struct rubblewaltz_filled widened(struct rubblewaltz_answer answer) {
@@ -61,8 +62,8 @@ static struct rubblewaltz_filled widened(struct rubblewaltz_answer answer) {
 static struct rubblewaltz_filled answer(void *row[ROWS]) {
     switch (desk.call) {
     case CHECK: return widened(rubblewaltz_check(NETWORK, TIMES));
-    case MEASURE: return widened(rubblewaltz_measure(NETWORK, TIMES, TENSIONS));
-    case SOLVE: return widened(rubblewaltz_solve(NETWORK, TIMES, TENSIONS));
+    case MEASURE: return widened(rubblewaltz_measure(NETWORK, TIMES, TENSIONS, TURNS));
+    case SOLVE: return widened(rubblewaltz_solve(NETWORK, TIMES, TENSIONS, TURNS));
     case REBUILD: return widened(rubblewaltz_rebuild(NETWORK, TENSIONS, TIMES));
     case READ: return rubblewaltz_read(TEXTS, NETWORK);
     case PRINT: return rubblewaltz_print(NETWORK, TEXTS);

@@ -14,19 +14,19 @@ use std::time::{Duration, Instant};
 const CALLS: [(&str, Version, Version); 4] = [
     (
         "check",
-        |network, times, _| check(network, times),
-        |network, times, _| baseline::check(network, times),
+        |network, times, _, _| check(network, times),
+        |network, times, _, _| baseline::check(network, times),
     ),
     (
         "measure",
-        |network, times, tensions| measure(network, times, tensions),
-        |network, times, tensions| baseline::measure(network, times, tensions),
+        |network, times, tensions, turns| measure(network, times, tensions, turns),
+        |network, times, tensions, turns| baseline::measure(network, times, tensions, turns),
     ),
     ("solve", solve, baseline::solve),
     (
         "rebuild",
-        |network, times, tensions| rebuild(network, tensions, times),
-        |network, times, tensions| baseline::rebuild(network, tensions, times),
+        |network, times, tensions, _| rebuild(network, tensions, times),
+        |network, times, tensions, _| baseline::rebuild(network, tensions, times),
     ),
 ];
 
@@ -101,18 +101,16 @@ fn ratio(ours: f64, theirs: f64) -> String {
 }
 
 /// The network with its smallest timetable, or all times 0 where none is feasible, and with the
-/// tensions of that: what each call reads, and what it writes.
+/// tensions and turns of that: what each call reads, and what it writes.
 fn prepared(known: &Known) -> Case {
-    let rows = files::network(&known.name);
-    let zeros = vec![0; rows.periods.len()];
-    let times = known.times.clone().unwrap_or(zeros);
-    let mut tensions = vec![0; rows.tail.len()];
-    reference::measure(&rows.network(), &times, &mut tensions);
-    Case {
-        rows,
-        times,
-        tensions,
+    let mut case = Case::unwritten(files::network(&known.name));
+    match &known.times {
+        Some(times) => case.times.clone_from(times),
+        None => case.times.fill(0),
     }
+    let network = case.rows.network();
+    reference::measure(&network, &case.times, &mut case.tensions, &mut case.turns);
+    case
 }
 
 /// For read the texts and rows to be filled, for print the network and rows of its texts' lengths.
@@ -127,8 +125,12 @@ fn prepared_text(name: &str, call: &str) -> TextCase {
 
 fn run(case: &mut Case, version: Version) -> Answer {
     let case = black_box(case);
-    let network = case.rows.network();
-    version(&network, &mut case.times, &mut case.tensions)
+    version(
+        &case.rows.network(),
+        &mut case.times,
+        &mut case.tensions,
+        &mut case.turns,
+    )
 }
 
 fn run_text(case: &mut TextCase, version: TextVersion) -> Filled {

@@ -20,11 +20,24 @@ fn arc_period(network: &Network, arc: usize) -> u32 {
     common_divisor(network.periods[tail], network.periods[head])
 }
 
-fn slack(network: &Network, arc: usize, times: &[u32]) -> u32 {
+/// Head time less tail time less lower.
+fn above_lower(network: &Network, arc: usize, times: &[u32]) -> i32 {
     let tail = times[network.tail[arc] as usize] as i32;
     let head = times[network.head[arc] as usize] as i32;
+    head - tail - network.lower[arc]
+}
+
+fn slack(network: &Network, arc: usize, times: &[u32]) -> u32 {
     let g = arc_period(network, arc) as i32;
-    (head - tail - network.lower[arc]).rem_euclid(g) as u32
+    above_lower(network, arc, times).rem_euclid(g) as u32
+}
+
+/// The turn and the slack of an arc, by one division.
+fn turn_and_slack(network: &Network, arc: usize, times: &[u32]) -> (i32, u32) {
+    let g = arc_period(network, arc) as i32;
+    let number = above_lower(network, arc, times);
+    let quotient = number.div_euclid(g);
+    (-quotient, (number - quotient * g) as u32)
 }
 
 fn met(network: &Network, arc: usize, times: &[u32]) -> bool {
@@ -97,37 +110,48 @@ pub fn check(network: &Network, times: &[u32]) -> Answer {
     Answer::success(cost(network, times))
 }
 
-pub fn measure(network: &Network, times: &[u32], tensions: &mut [i32]) -> Answer {
+pub fn measure(
+    network: &Network,
+    times: &[u32],
+    tensions: &mut [i32],
+    turns: &mut [i32],
+) -> Answer {
+    let (n, m) = (network.periods.len(), network.tail.len());
     if let Some(answer) = refusal(network) {
         return answer;
     }
-    if times.len() != network.periods.len() || tensions.len() < network.tail.len() {
+    if times.len() != n || tensions.len() < m || turns.len() < m {
         return Answer::refusal(9, 0);
     }
     if let Some(answer) = late_time(network, times) {
         return answer;
     }
-    write_tensions(network, times, tensions)
+    write_arcs(network, times, tensions, turns)
 }
 
-/// Writes the tensions and answers with the cost, in one pass.
-fn write_tensions(network: &Network, times: &[u32], tensions: &mut [i32]) -> Answer {
+/// Writes the tensions and the turns and answers with the cost, in one pass.
+fn write_arcs(network: &Network, times: &[u32], tensions: &mut [i32], turns: &mut [i32]) -> Answer {
     let mut cost = 0;
-    let written = &mut tensions[..network.tail.len()];
-    for (arc, entry) in written.iter_mut().enumerate() {
-        let slack = slack(network, arc, times);
-        *entry = network.lower[arc] + slack as i32;
+    for arc in 0..network.tail.len() {
+        let (turn, slack) = turn_and_slack(network, arc, times);
+        tensions[arc] = network.lower[arc] + slack as i32;
+        turns[arc] = turn;
         cost += u64::from(network.weight[arc]) * u64::from(slack);
     }
     Answer::success(cost)
 }
 
-pub fn solve(network: &Network, times: &mut [u32], tensions: &mut [i32]) -> Answer {
-    let n = network.periods.len();
+pub fn solve(
+    network: &Network,
+    times: &mut [u32],
+    tensions: &mut [i32],
+    turns: &mut [i32],
+) -> Answer {
+    let (n, m) = (network.periods.len(), network.tail.len());
     if let Some(answer) = refusal(network) {
         return answer;
     }
-    if times.len() < n || tensions.len() < network.tail.len() {
+    if times.len() < n || tensions.len() < m || turns.len() < m {
         return Answer::refusal(9, 0);
     }
     let mut found = [0; 64];
@@ -135,7 +159,7 @@ pub fn solve(network: &Network, times: &mut [u32], tensions: &mut [i32]) -> Answ
         return Answer::refusal(10, 0);
     }
     times[..n].copy_from_slice(&found[..n]);
-    write_tensions(network, &found[..n], tensions)
+    write_arcs(network, &found[..n], tensions, turns)
 }
 
 /// What the search asks of the arcs again and again, worked out once: less the lower bound by the

@@ -62,8 +62,8 @@ impl Server {
     }
 }
 
-/// The bytes of the rows that a call is lent: the network's six, and the two that go with them.
-type Lent = [Vec<u8>; 8];
+/// The bytes of the rows that a call is lent: the network's six, and the three that go with them.
+type Lent = [Vec<u8>; 9];
 
 /// Gives the call's answer, and the rows as it left them.
 fn call(number: u32, lent: &Lent) -> (Filled, Lent) {
@@ -115,7 +115,7 @@ fn bytes_to_signed(bytes: &[u8]) -> Vec<i32> {
     words.iter().map(|&word| word as i32).collect()
 }
 
-fn lend(network: &Network, seventh: Vec<u8>, eighth: Vec<u8>) -> Lent {
+fn lend(network: &Network, [seventh, eighth, ninth]: [Vec<u8>; 3]) -> Lent {
     [
         words_to_bytes(network.periods),
         words_to_bytes(network.tail),
@@ -125,61 +125,94 @@ fn lend(network: &Network, seventh: Vec<u8>, eighth: Vec<u8>) -> Lent {
         words_to_bytes(network.weight),
         seventh,
         eighth,
+        ninth,
     ]
 }
 
-/// What a call on a timetable answers, and the times and the tensions as it left them.
+/// What a call on a timetable answers, and the times, the tensions and the turns as it left them.
 struct Reply {
     answer: Answer,
     times: Vec<u32>,
     tensions: Vec<i32>,
+    turns: Vec<i32>,
 }
 
-fn call_on_timetable(number: u32, network: &Network, times: &[u32], tensions: &[i32]) -> Reply {
-    let lent = lend(network, words_to_bytes(times), signed_to_bytes(tensions));
+fn call_on_timetable(
+    number: u32,
+    network: &Network,
+    times: &[u32],
+    tensions: &[i32],
+    turns: &[i32],
+) -> Reply {
+    let own = [
+        words_to_bytes(times),
+        signed_to_bytes(tensions),
+        signed_to_bytes(turns),
+    ];
+    let lent = lend(network, own);
     let (answer, left) = call(number, &lent);
     assert_eq!(left[..6], lent[..6], "the network's rows are kept");
     Reply {
         answer: answer.into(),
         times: bytes_to_words(&left[6]),
         tensions: bytes_to_signed(&left[7]),
+        turns: bytes_to_signed(&left[8]),
     }
 }
 
 /// Is the timetable right? Codes 1 to 9, 14, 15, or 0 with the cost.
 pub fn check(network: &Network, times: &[u32]) -> Answer {
-    let reply = call_on_timetable(CHECK, network, times, &[]);
+    let reply = call_on_timetable(CHECK, network, times, &[], &[]);
     assert_eq!(reply.times, times, "check reads the times");
     reply.answer
 }
 
-/// The timetable's tensions and cost. Codes 1 to 9, 14, or 0 with tensions 0..m written.
-pub fn measure(network: &Network, times: &[u32], tensions: &mut [i32]) -> Answer {
-    let reply = call_on_timetable(MEASURE, network, times, tensions);
+/// The timetable's tensions, turns and cost. Codes 1 to 9, 14, or 0 with tensions and turns 0..m
+/// written.
+pub fn measure(
+    network: &Network,
+    times: &[u32],
+    tensions: &mut [i32],
+    turns: &mut [i32],
+) -> Answer {
+    let reply = call_on_timetable(MEASURE, network, times, tensions, turns);
     assert_eq!(reply.times, times, "measure reads the times");
     tensions.copy_from_slice(&reply.tensions);
+    turns.copy_from_slice(&reply.turns);
     reply.answer
 }
 
-/// The smallest feasible timetable. Codes 1 to 10, or 0 with times 0..n and tensions 0..m written.
-pub fn solve(network: &Network, times: &mut [u32], tensions: &mut [i32]) -> Answer {
-    let reply = call_on_timetable(SOLVE, network, times, tensions);
+/// The smallest feasible timetable. Codes 1 to 10, or 0 with times 0..n, tensions and turns 0..m
+/// written.
+pub fn solve(
+    network: &Network,
+    times: &mut [u32],
+    tensions: &mut [i32],
+    turns: &mut [i32],
+) -> Answer {
+    let reply = call_on_timetable(SOLVE, network, times, tensions, turns);
     times.copy_from_slice(&reply.times);
     tensions.copy_from_slice(&reply.tensions);
+    turns.copy_from_slice(&reply.turns);
     reply.answer
 }
 
 /// The timetable of these tensions. Codes 1 to 9, 11 to 13, or 0 with times 0..n written.
 pub fn rebuild(network: &Network, tensions: &[i32], times: &mut [u32]) -> Answer {
-    let reply = call_on_timetable(REBUILD, network, times, tensions);
+    let reply = call_on_timetable(REBUILD, network, times, tensions, &[]);
     assert_eq!(reply.tensions, tensions, "rebuild reads the tensions");
     times.copy_from_slice(&reply.times);
     reply.answer
 }
 
+/// The calls on texts have no ninth row.
+fn texts(events: &[u8], arcs: &[u8]) -> [Vec<u8>; 3] {
+    [events.to_vec(), arcs.to_vec(), Vec::new()]
+}
+
 /// The network of two texts. Codes 9, 16, 17, or 0 with periods 0..n and arcs 0..m written.
 pub fn read(events: &[u8], arcs: &[u8], network: NetworkMut) -> Filled {
-    let lent = lend(&network.network(), events.to_vec(), arcs.to_vec());
+    let lent = lend(&network.network(), texts(events, arcs));
     let (answer, left) = call(READ, &lent);
     assert_eq!(left[6..], lent[6..], "read reads the texts");
     network.periods.copy_from_slice(&bytes_to_words(&left[0]));
@@ -193,7 +226,7 @@ pub fn read(events: &[u8], arcs: &[u8], network: NetworkMut) -> Filled {
 
 /// The two texts of a network. Codes 1, 3, 9, or 0 with both texts written.
 pub fn print(network: &Network, events: &mut [u8], arcs: &mut [u8]) -> Filled {
-    let lent = lend(network, events.to_vec(), arcs.to_vec());
+    let lent = lend(network, texts(events, arcs));
     let (answer, left) = call(PRINT, &lent);
     assert_eq!(left[..6], lent[..6], "the network's rows are kept");
     events.copy_from_slice(&left[6]);

@@ -7,16 +7,30 @@ pub use text::{TextCall, TextCase, TextVersion, PRINT, READ};
 use crate::network::{Answer, Network, Rows};
 use crate::reference;
 
-/// What one call is lent: the network's rows, a row of times and a row of tensions, each read or
+/// What one call is lent: the network's rows, and rows of times, tensions and turns, each read or
 /// written as the call has it.
-#[derive(Clone, Debug, PartialEq, Eq)]
+#[derive(Clone, Debug, Default, PartialEq, Eq)]
 pub struct Case {
     pub rows: Rows,
     pub times: Vec<u32>,
     pub tensions: Vec<i32>,
+    pub turns: Vec<i32>,
 }
 
-pub type Version = fn(&Network, &mut [u32], &mut [i32]) -> Answer;
+impl Case {
+    /// Rows of the lengths that the network asks for, filled with what no call ever writes.
+    pub fn unwritten(rows: Rows) -> Self {
+        Case {
+            times: vec![9_999_999; rows.periods.len()],
+            tensions: vec![9_999_999; rows.tail.len()],
+            turns: vec![-9_999_999; rows.tail.len()],
+            rows,
+        }
+    }
+}
+
+/// Takes the network, and the rows of times, tensions and turns in this order.
+pub type Version = fn(&Network, &mut [u32], &mut [i32], &mut [i32]) -> Answer;
 
 /// A call in two versions: the one that is tried, and the reference.
 pub struct Call {
@@ -27,37 +41,39 @@ pub struct Call {
 
 pub const CHECK: Call = Call {
     name: "check",
-    tried: |network, times, _| crate::check(network, times),
-    reference: |network, times, _| reference::check(network, times),
+    tried: |network, times, _, _| crate::check(network, times),
+    reference: |network, times, _, _| reference::check(network, times),
 };
 
 pub const MEASURE: Call = Call {
     name: "measure",
-    tried: |network, times, tensions| crate::measure(network, times, tensions),
-    reference: |network, times, tensions| reference::measure(network, times, tensions),
+    tried: |network, times, tensions, turns| crate::measure(network, times, tensions, turns),
+    reference: |network, times, tensions, turns| {
+        reference::measure(network, times, tensions, turns)
+    },
 };
 
 /// The reference tries all timetables, so it is for small networks alone.
 pub const SOLVE: Call = Call {
     name: "solve",
-    tried: |network, times, tensions| crate::solve(network, times, tensions),
-    reference: |network, times, tensions| reference::solve(network, times, tensions),
+    tried: crate::solve,
+    reference: reference::solve,
 };
 
 pub const SOLVE_BY_SKIPPING: Call = Call {
-    reference: |network, times, tensions| reference::solve_by_skipping(network, times, tensions),
+    reference: reference::solve_by_skipping,
     ..SOLVE
 };
 
 pub const REBUILD: Call = Call {
     name: "rebuild",
-    tried: |network, times, tensions| crate::rebuild(network, tensions, times),
-    reference: |network, times, tensions| reference::rebuild(network, tensions, times),
+    tried: |network, times, tensions, _| crate::rebuild(network, tensions, times),
+    reference: |network, times, tensions, _| reference::rebuild(network, tensions, times),
 };
 
 /// The reference tries all timetables, so it is for small networks alone.
 pub const REBUILD_BY_TRYING: Call = Call {
-    reference: |network, times, tensions| reference::rebuild_by_trying(network, tensions, times),
+    reference: |network, times, tensions, _| reference::rebuild_by_trying(network, tensions, times),
     ..REBUILD
 };
 
@@ -73,6 +89,7 @@ struct Outcome {
     rows: Rows,
     fenced_times: Vec<u32>,
     fenced_tensions: Vec<i32>,
+    fenced_turns: Vec<i32>,
 }
 
 impl Call {
@@ -84,6 +101,7 @@ impl Call {
         let left = Case {
             times: inside(&got.fenced_times).to_vec(),
             tensions: inside(&got.fenced_tensions).to_vec(),
+            turns: inside(&got.fenced_turns).to_vec(),
             rows: got.rows,
         };
         assert_form(self.name, case, got.answer, &left);
@@ -95,16 +113,19 @@ fn run(version: Version, case: &Case) -> Outcome {
     let rows = case.rows.clone();
     let mut fenced_times = fenced(&case.times, UNSIGNED_FENCE);
     let mut fenced_tensions = fenced(&case.tensions, SIGNED_FENCE);
+    let mut fenced_turns = fenced(&case.turns, SIGNED_FENCE);
     let answer = version(
         &rows.network(),
         inside_mut(&mut fenced_times),
         inside_mut(&mut fenced_tensions),
+        inside_mut(&mut fenced_turns),
     );
     Outcome {
         answer,
         rows,
         fenced_times,
         fenced_tensions,
+        fenced_turns,
     }
 }
 

@@ -1,7 +1,7 @@
 //! Safe calls into the archive of Rubblewaltz, and what its tests compare them with.
 //!
 //! `check`, `measure`, `solve`, `rebuild`, `read` and `print` here are the archive's. [`reference`]
-//! holds the same calls written from the paper and the request alone; [`random`] makes the cases,
+//! holds the same calls written from the paper and the requests alone; [`random`] makes the cases,
 //! and [`compare`] runs both and looks for a difference.
 //!
 //! ```
@@ -15,9 +15,10 @@
 //!     upper: &[15, 25, 30],
 //!     weight: &[3, 1, 2],
 //! };
-//! let (mut times, mut tensions) = ([0; 3], [0; 3]);
-//! let answer = solve(&network, &mut times, &mut tensions);
+//! let (mut times, mut tensions, mut turns) = ([0; 3], [0; 3], [0; 3]);
+//! let answer = solve(&network, &mut times, &mut tensions, &mut turns);
 //! assert_eq!((answer.code, answer.cost, times), (0, 4, [0, 10, 30]));
+//! assert_eq!((tensions, turns), ([10, 20, 30], [0, 0, 1]));
 //! ```
 
 #![deny(unsafe_code)]

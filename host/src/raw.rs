@@ -39,6 +39,8 @@ extern "C" {
         times_len: usize,
         tensions: *mut i32,
         tensions_len: usize,
+        turns: *mut i32,
+        turns_len: usize,
     ) -> Answer;
 
     fn rubblewaltz_solve(
@@ -58,6 +60,8 @@ extern "C" {
         times_len: usize,
         tensions: *mut i32,
         tensions_len: usize,
+        turns: *mut i32,
+        turns_len: usize,
     ) -> Answer;
 
     fn rubblewaltz_rebuild(
@@ -145,9 +149,15 @@ pub fn check(network: &Network, times: &[u32]) -> Answer {
     unsafe { lend!(rubblewaltz_check, network, times.as_ptr(), times.len()) }
 }
 
-/// The timetable's tensions and cost. Codes 1 to 9, 14, or 0 with tensions 0..m written.
-pub fn measure(network: &Network, times: &[u32], tensions: &mut [i32]) -> Answer {
-    // SAFETY: as in `check`; the one row written is borrowed mutably and so overlaps no other.
+/// The timetable's tensions, turns and cost. Codes 1 to 9, 14, or 0 with tensions and turns 0..m
+/// written.
+pub fn measure(
+    network: &Network,
+    times: &[u32],
+    tensions: &mut [i32],
+    turns: &mut [i32],
+) -> Answer {
+    // SAFETY: as in `check`; each row written is borrowed mutably and so overlaps no other.
     unsafe {
         lend!(
             rubblewaltz_measure,
@@ -155,14 +165,22 @@ pub fn measure(network: &Network, times: &[u32], tensions: &mut [i32]) -> Answer
             times.as_ptr(),
             times.len(),
             tensions.as_mut_ptr(),
-            tensions.len()
+            tensions.len(),
+            turns.as_mut_ptr(),
+            turns.len()
         )
     }
 }
 
-/// The smallest feasible timetable. Codes 1 to 10, or 0 with times 0..n and tensions 0..m written.
-pub fn solve(network: &Network, times: &mut [u32], tensions: &mut [i32]) -> Answer {
-    // SAFETY: as in `measure`, of both rows written.
+/// The smallest feasible timetable. Codes 1 to 10, or 0 with times 0..n, tensions and turns 0..m
+/// written.
+pub fn solve(
+    network: &Network,
+    times: &mut [u32],
+    tensions: &mut [i32],
+    turns: &mut [i32],
+) -> Answer {
+    // SAFETY: as in `measure`, of the three rows written.
     unsafe {
         lend!(
             rubblewaltz_solve,
@@ -170,7 +188,9 @@ pub fn solve(network: &Network, times: &mut [u32], tensions: &mut [i32]) -> Answ
             times.as_mut_ptr(),
             times.len(),
             tensions.as_mut_ptr(),
-            tensions.len()
+            tensions.len(),
+            turns.as_mut_ptr(),
+            turns.len()
         )
     }
 }

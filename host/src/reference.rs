@@ -1,6 +1,6 @@
-//! The calls as the paper defines them, and read and print as they were asked for, written from
-//! those words alone: wide numbers, one rule after the other, no thought of speed. It shares no
-//! code with the archive.
+//! The calls as the paper defines them, and the turns, read and print as they were asked for,
+//! written from those words alone: wide numbers, one rule after the other, no thought of speed. It
+//! shares no code with the archive.
 
 mod check;
 mod judge;
@@ -14,6 +14,6 @@ mod text;
 pub use check::check;
 pub use measure::measure;
 pub use rebuild::{rebuild, rebuild_by_trying};
-pub use rule::{arc_period, common_divisor, met, remainder, slack, tension, working_upper};
+pub use rule::{arc_period, common_divisor, met, remainder, slack, tension, turn, working_upper};
 pub use solve::{finishes_within, smallest, smallest_by_skipping, solve, solve_by_skipping};
 pub use text::{network_of, print, read, texts_of};

@@ -1,4 +1,4 @@
-//! The trials that every call goes through: damages in pairs and in bunches, and the limits.
+//! The trials that the calls go through: damages in pairs and in bunches, lengths, and the limits.
 
 pub mod text;
 
@@ -43,6 +43,42 @@ fn damaged(call: &Call, random: &mut Random, make: Maker, damages: &[Damage], ta
     let lowest = damages.iter().map(|&(code, _)| code).min();
     assert_eq!(Some(answer.code), lowest, "{}: {case:?}", call.name);
     tally.add(answer);
+}
+
+/// Right cases whose rows of times, tensions and turns have every length near the wanted one, or
+/// none, each with each. `fits` judges how many times there are for how many events: code 9 is
+/// answered if and only if they don't fit or one of the other rows is short.
+pub fn lengths(call: &Call, make: Maker, fits: fn(usize, usize) -> bool, rounds: usize) -> Tally {
+    let mut random = Random::new(13);
+    let mut tally = Tally::new(format!("{}, lengths of rows", call.name));
+    for _ in 0..rounds {
+        let base = make(&mut random);
+        let (n, m) = (base.rows.periods.len(), base.rows.tail.len());
+        for [times, tensions, turns] in lengths_near(n, m) {
+            let mut case = base.clone();
+            case.times.resize(times, u32::MAX);
+            case.tensions.resize(tensions, i32::MAX);
+            case.turns.resize(turns, i32::MAX);
+            let enough = fits(times, n) && tensions >= m && turns >= m;
+            let (answer, _) = call.compare(&case);
+            let code = if enough { 0 } else { 9 };
+            assert_eq!(answer.code, code, "{}: {case:?}", call.name);
+            tally.add(answer);
+        }
+    }
+    tally
+}
+
+/// Lengths for the times of `n` events and for the tensions and turns of `m` arcs.
+fn lengths_near(n: usize, m: usize) -> Vec<[usize; 3]> {
+    let near = |count: usize| [0, count - 1, count, count + 1];
+    let mut lengths = Vec::new();
+    for times in near(n) {
+        for tensions in near(m) {
+            lengths.extend(near(m).map(|turns| [times, tensions, turns]));
+        }
+    }
+    lengths
 }
 
 /// Every case at the limits that lies near one of the given ones.

@@ -3,7 +3,7 @@
 use rubblewaltz_host::compare::{Call, TextCall, CHECK, MEASURE, PRINT, READ, REBUILD, SOLVE};
 use rubblewaltz_host::random::damage::{
     Damage, INFEASIBLE, LATE_TIME, NETWORK, OPEN_LOOP, OTHER_PERIOD, READ_TIMES, SHORT_TENSIONS,
-    SHORT_TIMES, TENSION_OUTSIDE, TENSION_ROW, UNMET_ARC,
+    SHORT_TIMES, SHORT_TURNS, TENSION_OUTSIDE, TENSION_ROW, UNMET_ARC,
 };
 use rubblewaltz_host::random::{
     knotted, linked, small, solvable, unplanted, vary_tensions, with_tensions, Random,
@@ -14,13 +14,13 @@ use rubblewaltz_host::{baseline, trials};
 
 const BASELINE_CHECK: Call = Call {
     name: "baseline check",
-    tried: |network, times, _| baseline::check(network, times),
+    tried: |network, times, _, _| baseline::check(network, times),
     ..CHECK
 };
 
 const BASELINE_MEASURE: Call = Call {
     name: "baseline measure",
-    tried: |network, times, tensions| baseline::measure(network, times, tensions),
+    tried: |network, times, tensions, turns| baseline::measure(network, times, tensions, turns),
     ..MEASURE
 };
 
@@ -32,7 +32,7 @@ const BASELINE_SOLVE: Call = Call {
 
 const BASELINE_REBUILD: Call = Call {
     name: "baseline rebuild",
-    tried: |network, times, tensions| baseline::rebuild(network, tensions, times),
+    tried: |network, times, tensions, _| baseline::rebuild(network, tensions, times),
     ..REBUILD
 };
 
@@ -57,9 +57,9 @@ fn damaged_cases() {
     let check = with_network(&[READ_TIMES, LATE_TIME, UNMET_ARC]);
     let codes = [1, 2, 3, 4, 5, 6, 7, 8, 9, 14, 15];
     trials::bunches(&BASELINE_CHECK, &check, linked, 10_000).require(100, &codes);
-    let measure = with_network(&[READ_TIMES, SHORT_TENSIONS, LATE_TIME]);
+    let measure = with_network(&[READ_TIMES, SHORT_TENSIONS, SHORT_TURNS, LATE_TIME]);
     trials::bunches(&BASELINE_MEASURE, &measure, linked, 10_000).require(100, &codes[..10]);
-    let solve = with_network(&[SHORT_TIMES, SHORT_TENSIONS, INFEASIBLE]);
+    let solve = with_network(&[SHORT_TIMES, SHORT_TENSIONS, SHORT_TURNS, INFEASIBLE]);
     let codes = [1, 2, 3, 4, 5, 6, 7, 8, 9, 10];
     trials::bunches(&BASELINE_SOLVE, &solve, solvable, 10_000).require(100, &codes);
     let rebuild = [
@@ -72,6 +72,14 @@ fn damaged_cases() {
     let codes = [1, 2, 3, 4, 5, 6, 7, 8, 9, 11, 12, 13];
     let rebuild = with_network(&rebuild);
     trials::bunches(&BASELINE_REBUILD, &rebuild, knotted, 10_000).require(100, &codes);
+}
+
+#[test]
+fn lengths_of_rows() {
+    let measure = trials::lengths(&BASELINE_MEASURE, linked, |times, n| times == n, 100);
+    measure.require(400, &[0, 9]);
+    let solve = trials::lengths(&BASELINE_SOLVE, solvable, |times, n| times >= n, 100);
+    solve.require(800, &[0, 9]);
 }
 
 #[test]

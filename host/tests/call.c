@@ -49,17 +49,17 @@ static int check(void) {
 }
 
 static int measure(void) {
-    int32_t tensions[3] = {0, 0, 0};
-    return is(rubblewaltz_measure(NETWORK, smallest, 3, tensions, 3), 0, 0, 4)
-        && are(tensions, 10, 20, 30);
+    int32_t tensions[3] = {0, 0, 0}, turns[3] = {9, 9, 9};
+    return is(rubblewaltz_measure(NETWORK, smallest, 3, tensions, 3, turns, 3), 0, 0, 4)
+        && are(tensions, 10, 20, 30) && are(turns, 0, 0, 1);
 }
 
 static int solve(void) {
     uint32_t times[3] = {0, 0, 0};
-    int32_t tensions[3] = {0, 0, 0};
-    return is(rubblewaltz_solve(NETWORK, times, 3, tensions, 3), 0, 0, 4)
+    int32_t tensions[3] = {0, 0, 0}, turns[3] = {9, 9, 9};
+    return is(rubblewaltz_solve(NETWORK, times, 3, tensions, 3, turns, 3), 0, 0, 4)
         && times[0] == 0 && times[1] == 10 && times[2] == 30
-        && are(tensions, 10, 20, 30);
+        && are(tensions, 10, 20, 30) && are(turns, 0, 0, 1);
 }
 
 static int rebuild(void) {

@@ -1,7 +1,9 @@
 //! measure against the reference.
 
 use rubblewaltz_host::compare::{Case, MEASURE};
-use rubblewaltz_host::random::damage::{Damage, LATE_TIME, NETWORK, READ_TIMES, SHORT_TENSIONS};
+use rubblewaltz_host::random::damage::{
+    Damage, LATE_TIME, NETWORK, READ_TIMES, SHORT_TENSIONS, SHORT_TURNS,
+};
 use rubblewaltz_host::random::{heavy, linked, planted, unplanted, Random};
 use rubblewaltz_host::tally::Tally;
 use rubblewaltz_host::trials;
@@ -9,7 +11,8 @@ use rubblewaltz_host::trials;
 const CODES: [u32; 10] = [1, 2, 3, 4, 5, 6, 7, 8, 9, 14];
 
 fn damages() -> Vec<Damage> {
-    [&NETWORK[..], &[READ_TIMES, SHORT_TENSIONS, LATE_TIME]].concat()
+    let own = [READ_TIMES, SHORT_TENSIONS, SHORT_TURNS, LATE_TIME];
+    [&NETWORK[..], &own].concat()
 }
 
 #[test]
@@ -31,6 +34,12 @@ fn pairs_of_damages() {
 #[test]
 fn bunches_of_damages() {
     trials::bunches(&MEASURE, &damages(), linked, 20_000).require(300, &CODES);
+}
+
+/// The rows that are written may be longer, that of the times may not.
+#[test]
+fn lengths_of_rows() {
+    trials::lengths(&MEASURE, linked, |times, n| times == n, 300).require(1200, &[0, 9]);
 }
 
 #[test]

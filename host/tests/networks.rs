@@ -1,9 +1,9 @@
 //! solve, read and print on the benchmark networks.
 
-use rubblewaltz_host::compare::Case;
+use rubblewaltz_host::compare::{Case, Version};
 use rubblewaltz_host::files::{self, Known};
 use rubblewaltz_host::round_trip::{printed, read_rows};
-use rubblewaltz_host::{baseline, reference, solve, Answer, Network};
+use rubblewaltz_host::{baseline, reference, solve, Answer};
 
 /// Those on which a plain search is soon through.
 const FINISHED: [&str; 15] = [
@@ -29,39 +29,32 @@ const FILES: usize = 37;
 
 /// What solve must answer and leave in rows of the network's lengths.
 fn expected(known: &Known) -> (Answer, Case) {
-    let lent = unsolved(&known.name);
+    let mut left = unsolved(&known.name);
     let Some(times) = &known.times else {
-        return (Answer::refusal(10, 0), lent);
+        return (Answer::refusal(10, 0), left);
     };
-    let mut tensions = lent.tensions;
-    let answer = reference::measure(&lent.rows.network(), times, &mut tensions);
-    let left = Case {
-        times: times.clone(),
-        tensions,
-        rows: lent.rows,
-    };
+    left.times.clone_from(times);
+    let network = left.rows.network();
+    let answer = reference::measure(&network, times, &mut left.tensions, &mut left.turns);
     (answer, left)
 }
 
 fn unsolved(name: &str) -> Case {
-    let rows = files::network(name);
-    Case {
-        times: vec![9_999_999; rows.periods.len()],
-        tensions: vec![9_999_999; rows.tail.len()],
-        rows,
-    }
+    Case::unwritten(files::network(name))
 }
 
-type Solve = fn(&Network, &mut [u32], &mut [i32]) -> Answer;
-
-fn assert_solves(name: &str, solve: Solve) {
+fn assert_solves(name: &str, solve: Version) {
     let known = files::answers();
     let names: Vec<&str> = known.iter().map(|known| known.name.as_str()).collect();
     assert_eq!(names, FINISHED);
     for known in known {
         let mut case = unsolved(&known.name);
-        let network = case.rows.network();
-        let answer = solve(&network, &mut case.times, &mut case.tensions);
+        let answer = solve(
+            &case.rows.network(),
+            &mut case.times,
+            &mut case.tensions,
+            &mut case.turns,
+        );
         assert_eq!((answer, case), expected(&known), "{name}: {}", known.name);
     }
 }

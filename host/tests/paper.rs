@@ -1,14 +1,16 @@
-//! The paper's own cases, "Junctions and their answers". Where it gives no weight, 1 is taken.
+//! The paper's own cases, "Junctions and their answers". Where it gives no weight, 1 is taken. It
+//! knows no turns: they are worked out by hand from the request.
 
 use rubblewaltz_host::compare::{Call, Case, CHECK, MEASURE, REBUILD, SOLVE_BY_SKIPPING};
 use rubblewaltz_host::{Answer, Arc, Rows};
 
-/// A network with a timetable, its tensions and its cost.
+/// A network with a timetable, its tensions, its turns and its cost.
 struct Timetable {
     name: &'static str,
     rows: Rows,
     times: Vec<u32>,
     tensions: Vec<i32>,
+    turns: Vec<i32>,
     cost: u64,
 }
 
@@ -40,6 +42,7 @@ fn timetable(
     rows: Rows,
     times: &[u32],
     tensions: &[i32],
+    turns: &[i32],
     cost: u64,
 ) -> Timetable {
     Timetable {
@@ -47,6 +50,7 @@ fn timetable(
         rows,
         times: times.to_vec(),
         tensions: tensions.to_vec(),
+        turns: turns.to_vec(),
         cost,
     }
 }
@@ -58,6 +62,7 @@ fn one_arc(periods: [u32; 2], ends: (u32, u32), bounds: (i32, i32)) -> Rows {
 
 /// The smallest timetables of their networks.
 fn smallest() -> Vec<Timetable> {
+    let a = network_a(A);
     let a20 = network_a([(20, 20); 3]);
     let p4 = one_arc([60, 20], (0, 1), (25, 30));
     let p5 = one_arc([60, 20], (1, 0), (25, 30));
@@ -69,27 +74,28 @@ fn smallest() -> Vec<Timetable> {
     let many = Rows::new(&[60, 60], &[arc(0, 1, 0, 59, 1); 256]);
     let low = one_arc([60, 60], (0, 1), (-7200, -7200));
     vec![
-        timetable("P1", network_a(A), &[0, 10, 30], &[10, 20, 30], 4),
-        timetable("P3", a20, &[0, 20, 40], &[20, 20, 20], 0),
-        timetable("P4", p4, &[0, 5], &[25], 0),
-        timetable("P5", p5, &[0, 10], &[30], 5),
-        timetable("P6", p6, &[0, 14], &[14, 14], 4),
-        timetable("P10", p10, &[0, 0], &[7], 0),
-        timetable("P11", p11, &[0, 0], &[0], 0),
-        timetable("P11, [0,60]", wide, &[0, 0], &[0], 0),
-        timetable("any time will do", any, &[0, 0], &[0], 0),
-        timetable("n 1, m 0", Rows::new(&[60], &[]), &[0], &[], 0),
-        timetable("m 256", many, &[0, 0], &[0; 256], 0),
-        timetable("lower -7,200", low, &[0, 0], &[-7200], 0),
+        timetable("P1", a, &[0, 10, 30], &[10, 20, 30], &[0, 0, 1], 4),
+        timetable("P3", a20, &[0, 20, 40], &[20, 20, 20], &[0, 0, 1], 0),
+        timetable("P4", p4, &[0, 5], &[25], &[1], 0),
+        timetable("P5", p5, &[0, 10], &[30], &[2], 5),
+        timetable("P6", p6, &[0, 14], &[14, 14], &[0, 0], 4),
+        timetable("P10", p10, &[0, 0], &[7], &[7], 0),
+        timetable("P11", p11, &[0, 0], &[0], &[0], 0),
+        timetable("P11, [0,60]", wide, &[0, 0], &[0], &[0], 0),
+        timetable("any time will do", any, &[0, 0], &[0], &[0], 0),
+        timetable("n 1, m 0", Rows::new(&[60], &[]), &[0], &[], &[], 0),
+        timetable("m 256", many, &[0, 0], &[0; 256], &[0; 256], 0),
+        timetable("lower -7,200", low, &[0, 0], &[-7200], &[-120], 0),
     ]
 }
 
 /// What rebuild gives from the tensions.
 fn rebuilt() -> Vec<Timetable> {
+    let a = network_a(A);
     let joined = Rows::new(&[60; 4], &[arc(3, 1, 5, 9, 1)]);
     vec![
-        timetable("P7", network_a(A), &[0, 12, 32], &[12, 20, 28], 6),
-        timetable("P9", joined, &[0, 0, 0, 55], &[5], 0),
+        timetable("P7", a, &[0, 12, 32], &[12, 20, 28], &[0, 0, 1], 6),
+        timetable("P9", joined, &[0, 0, 0, 55], &[5], &[1], 0),
     ]
 }
 
@@ -113,26 +119,18 @@ fn expect(call: &Call, name: &str, lent: &Case, answer: Answer, left: &Case) {
     assert_eq!((got.0, &got.1), (answer, left), "{} {name}", call.name);
 }
 
-/// Rows of the lengths that the network asks for, filled with what no call ever writes.
-fn kept(rows: &Rows) -> Case {
-    Case {
-        times: vec![9_999_999; rows.periods.len()],
-        tensions: vec![9_999_999; rows.tail.len()],
-        rows: rows.clone(),
-    }
-}
-
 #[test]
 fn timetables_are_checked_and_measured() {
     for case in smallest().into_iter().chain(rebuilt()) {
         let answer = Answer::success(case.cost);
         let lent = Case {
             times: case.times,
-            ..kept(&case.rows)
+            ..Case::unwritten(case.rows)
         };
         expect(&CHECK, case.name, &lent, answer, &lent);
         let left = Case {
             tensions: case.tensions,
+            turns: case.turns,
             ..lent.clone()
         };
         expect(&MEASURE, case.name, &lent, answer, &left);
@@ -142,10 +140,11 @@ fn timetables_are_checked_and_measured() {
 #[test]
 fn smallest_timetables_are_found() {
     for case in smallest() {
-        let lent = kept(&case.rows);
+        let lent = Case::unwritten(case.rows.clone());
         let left = Case {
             times: case.times,
             tensions: case.tensions,
+            turns: case.turns,
             rows: case.rows,
         };
         let answer = Answer::success(case.cost);
@@ -160,7 +159,7 @@ fn networks_without_a_feasible_timetable() {
         ("P3, arc 0 at [19,19]", [(19, 19), (20, 20), (20, 20)]),
     ];
     for (name, bounds) in cases {
-        let lent = kept(&network_a(bounds));
+        let lent = Case::unwritten(network_a(bounds));
         expect(
             &SOLVE_BY_SKIPPING,
             name,
@@ -177,7 +176,7 @@ fn timetables_are_rebuilt() {
     for case in smallest().into_iter().filter(common).chain(rebuilt()) {
         let lent = Case {
             tensions: case.tensions,
-            ..kept(&case.rows)
+            ..Case::unwritten(case.rows)
         };
         let left = Case {
             times: case.times,
@@ -206,7 +205,7 @@ fn tensions_are_refused() {
     for (name, rows, tensions, code, place) in cases {
         let lent = Case {
             tensions,
-            ..kept(&rows)
+            ..Case::unwritten(rows)
         };
         expect(&REBUILD, name, &lent, Answer::refusal(code, place), &lent);
     }
@@ -215,7 +214,7 @@ fn tensions_are_refused() {
 #[test]
 fn networks_are_refused() {
     for (name, rows, code, place) in refused() {
-        let lent = kept(&rows);
+        let lent = Case::unwritten(rows);
         let answer = Answer::refusal(code, place);
         for call in [CHECK, MEASURE, SOLVE_BY_SKIPPING, REBUILD] {
             expect(&call, name, &lent, answer, &lent);
@@ -229,7 +228,7 @@ fn arcs_that_are_not_met() {
     for (times, place) in cases {
         let lent = Case {
             times: times.to_vec(),
-            ..kept(&network_a(A))
+            ..Case::unwritten(network_a(A))
         };
         expect(&CHECK, "A", &lent, Answer::refusal(15, place), &lent);
     }

@@ -1,4 +1,4 @@
-//! The words of the request, each in a text of its own.
+//! The words of the request for texts, each in a text of its own.
 
 use rubblewaltz_host::compare::{TextCase, PRINT, READ};
 use rubblewaltz_host::{Filled, Rows};

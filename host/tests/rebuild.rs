@@ -26,8 +26,9 @@ fn damages() -> Vec<Damage> {
 /// The archive's own measure gives the tensions back, at the same cost.
 fn assert_measured(answer: Answer, left: &Case) {
     let times = &left.times[..left.rows.periods.len()];
-    let mut tensions = vec![0; left.tensions.len()];
-    let measured = measure(&left.rows.network(), times, &mut tensions);
+    let m = left.tensions.len();
+    let (mut tensions, mut turns) = (vec![0; m], vec![0; m]);
+    let measured = measure(&left.rows.network(), times, &mut tensions, &mut turns);
     assert_eq!((measured, &tensions), (answer, &left.tensions), "{left:?}");
 }
 

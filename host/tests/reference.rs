@@ -1,9 +1,9 @@
 //! The reference's own parts against their plain meaning.
 
 use rubblewaltz_host::compare::{Call, REBUILD_BY_TRYING};
-use rubblewaltz_host::random::{few_timetables, small, vary_tensions, Random};
+use rubblewaltz_host::random::{few_timetables, small, unplanted, vary_tensions, Random};
 use rubblewaltz_host::reference::{
-    common_divisor, rebuild, remainder, smallest, smallest_by_skipping,
+    arc_period, common_divisor, rebuild, remainder, smallest, smallest_by_skipping, tension, turn,
 };
 use rubblewaltz_host::tally::Tally;
 
@@ -29,6 +29,28 @@ fn remainder_lies_from_zero_to_less_than_the_divisor() {
     }
 }
 
+/// Of all numbers from the least to the greatest that are asked for; signs of every kind occur.
+#[test]
+fn turn_is_the_only_number_that_gives_the_tension() {
+    let mut random = Random::new(23);
+    let mut signs = [0; 3];
+    for _ in 0..500 {
+        let case = unplanted(&mut random);
+        let network = case.rows.network();
+        for arc in 0..network.tail.len() {
+            let g = i64::from(arc_period(&network, arc));
+            let head = i64::from(case.times[network.head[arc] as usize]);
+            let tail = i64::from(case.times[network.tail[arc] as usize]);
+            let tension = tension(&network, arc, &case.times);
+            let turns = (-14_400..=14_400).filter(|z| head - tail + z * g == tension);
+            let turn = turn(&network, arc, &case.times);
+            assert_eq!(turns.collect::<Vec<i64>>(), [turn], "arc {arc}: {case:?}");
+            signs[(turn.signum() + 1) as usize] += 1;
+        }
+    }
+    assert!(signs.iter().all(|&count| count > 500), "{signs:?}");
+}
+
 #[test]
 fn skipping_passes_over_no_feasible_timetable() {
     let mut random = Random::new(21);
@@ -47,7 +69,7 @@ fn skipping_passes_over_no_feasible_timetable() {
 fn potentials_find_what_trying_all_timetables_finds() {
     let potentials = Call {
         name: "rebuild by potentials",
-        tried: |network, times, tensions| rebuild(network, tensions, times),
+        tried: |network, times, tensions, _| rebuild(network, tensions, times),
         ..REBUILD_BY_TRYING
     };
     let mut random = Random::new(22);

@@ -1,7 +1,9 @@
 //! solve against the reference.
 
 use rubblewaltz_host::compare::{Case, SOLVE, SOLVE_BY_SKIPPING};
-use rubblewaltz_host::random::damage::{Damage, INFEASIBLE, NETWORK, SHORT_TENSIONS, SHORT_TIMES};
+use rubblewaltz_host::random::damage::{
+    Damage, INFEASIBLE, NETWORK, SHORT_TENSIONS, SHORT_TIMES, SHORT_TURNS,
+};
 use rubblewaltz_host::random::{
     edges, heavy, planted, small, solvable, unplanted, unsolved, Random,
 };
@@ -15,7 +17,8 @@ const CODES: [u32; 10] = [1, 2, 3, 4, 5, 6, 7, 8, 9, 10];
 const STEPS: u64 = 500;
 
 fn damages() -> Vec<Damage> {
-    [&NETWORK[..], &[SHORT_TIMES, SHORT_TENSIONS, INFEASIBLE]].concat()
+    let own = [SHORT_TIMES, SHORT_TENSIONS, SHORT_TURNS, INFEASIBLE];
+    [&NETWORK[..], &own].concat()
 }
 
 /// The archive's own check and measure agree with what its solve has left.
@@ -24,9 +27,11 @@ fn assert_accepted(answer: Answer, left: &Case) {
     let (n, m) = (network.periods.len(), network.tail.len());
     let times = &left.times[..n];
     assert_eq!(check(&network, times), answer, "{left:?}");
-    let mut tensions = vec![0; m];
-    assert_eq!(measure(&network, times, &mut tensions), answer, "{left:?}");
+    let (mut tensions, mut turns) = (vec![0; m], vec![0; m]);
+    let measured = measure(&network, times, &mut tensions, &mut turns);
+    assert_eq!(measured, answer, "{left:?}");
     assert_eq!(tensions, left.tensions[..m], "{left:?}");
+    assert_eq!(turns, left.turns[..m], "{left:?}");
 }
 
 #[test]
@@ -71,6 +76,13 @@ fn pairs_of_damages() {
 #[test]
 fn bunches_of_damages() {
     trials::bunches(&SOLVE_BY_SKIPPING, &damages(), solvable, 20_000).require(300, &CODES);
+}
+
+/// Longer rows of all three kinds are as good as those of the wanted lengths.
+#[test]
+fn lengths_of_rows() {
+    let tally = trials::lengths(&SOLVE_BY_SKIPPING, solvable, |times, n| times >= n, 200);
+    tally.require(1600, &[0, 9]);
 }
 
 #[test]

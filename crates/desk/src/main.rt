@@ -59,6 +59,7 @@ fn print_arcs(tensions: &[i32], lower: &[i32])
 fn main() {
     let mut times = [0u32; 3];
     let mut tensions = [0i32; 3];
+    let mut turns = [0i32; 3];
     let answer = timetable::solve::solve(
         &PERIODS,
         &TAIL,
@@ -68,6 +69,7 @@ fn main() {
         &WEIGHT,
         &mut times,
         &mut tensions,
+        &mut turns,
     );
     print_times(&times);
     print_arcs(&tensions, &LOWER);

@@ -2,31 +2,38 @@
 use mathlib.Core.Path.{_≡_, refl, sym, ap, _∙_}
 use mathlib.Core.Logic.{_⊎_, inl, inr}
 use mathlib.Core.List.{List}
+use mathlib.Core.Bool.{false}
 use Prim.Native.Nat.{ℕ, zero, suc, _+_, _*_, _≤_, _<_}
 use native.Mathlib.Nat.{mul-le-mul, eq-or-lt-of-le}
 use native.Mathlib.Numerals.{add-one}
 use native.Mathlib.Omega.{arith}
+use borrow.Author.Tests.{ltb-false}
 use lib.IntN.{ℤ, pos, natAbs, _+ℤ_, _-ℤ_}
 use lib.Signed.{mag}
-use mir.Syntax.{w32}
-use mir.Val.{toZ, ofZ}
-use lib.ListN.{length, set, length-set}
+use mir.Syntax.{w32, w64}
+use mir.Val.{SFits, toZ, ofZ}
+use lib.ListN.{length, getD, set, length-set}
 use lib.Seq.{getD-set-same, getD-set-other}
 use Rattle.numbers.proofs.Integers.{zed, ofSub}
 use Rattle.numbers.proofs.Bits.{of}
-use Rattle.network.specs.Network.{Network, arcs, lower, upper, weight}
 use Rattle.numbers.specs.Row.{at}
-use Rattle.network.specs.PublicRule.{arcPeriod, slack, tension, workingBy, working, arcCost, costTo}
+use Rattle.network.specs.Network.{Network, arcs, tail, head, lower, upper, weight}
+use Rattle.network.specs.PublicRule.{arcPeriod, slackBy, slack, tension, workingBy, working, arcCost, costTo}
 use Rattle.network.specs.Table.{WellFormed}
-use Rattle.network.specs.Rows.{written}
+use Rattle.network.specs.Rows.{written, ArcRows, short, shortFor}
 use Rattle.network.specs.Trial.{AsksPeriod}
 use Rattle.network.specs.Inner.{Span, TimedArc, TimedEnd}
-use Rattle.network.proofs.Sound.{Inside, Sound, sound, arc-period}
+use Rattle.network.proofs.Sound.{Inside, Sound, sound, arc-period, neither}
 use Rattle.network.proofs.Width.{size, narrow, slack-below}
 
 -- a signed result of a call is passed on as it is
 pub kept : {z : ℤ} → mag z < 2147483648 → toZ w32 (ofZ w32 z) ≡ z
 kept {z} h = of {z = z} (record { sfits = h }) .is
+
+-- and so is head time less tail time less lower, the lower bound having been handed on itself
+pub beyond-kept : {z low : ℤ} (from to : ℕ) → mag z < 9223372036854775808 → SFits w32 low → z ≡ (pos to -ℤ pos from) -ℤ toZ w32 (ofZ w32 low)
+    → toZ w64 (ofZ w64 z) ≡ (pos to -ℤ pos from) -ℤ low
+beyond-kept {z} from to h f e = of {z = z} (record { sfits = h }) .is ∙ e ∙ ap (λ (l : ℤ). (pos to -ℤ pos from) -ℤ l) (of f .is)
 
 -- weight times slack is small
 pub product-small : {w s : ℕ} → w ≤ 10000 → s < 3600 → w * s ≤ 36000000
@@ -108,6 +115,18 @@ module _ {N : Network} {t : List ℕ} {a : ℕ} (c : TimedArc N t a) where
   unfolding arcCost
   cost-small = product-small (weight-of (arc-of c)) slack-small
 
+-- ---- what calls handed on of it
+
+pub record Worked (N : Network) (t : List ℕ) (a g : ℕ) (low : ℤ) (from to : ℕ) : Type 0 where
+  pub period-is : g ≡ arcPeriod N a
+  pub lower-is : low ≡ lower N a
+  pub from-is : from ≡ at t (tail N a)
+  pub to-is : to ≡ at t (head N a)
+
+pub slack-is : {N : Network} {t : List ℕ} {a g : ℕ} {low : ℤ} {from to s : ℕ} → Worked N t a g low from to → s ≡ slackBy g low from to → s ≡ slack N t a
+unfolding slack
+slack-is w e = e ∙ (λ j. slackBy (w .period-is j) (w .lower-is j) (w .from-is j) (w .to-is j))
+
 -- ---- the cost, arc by arc
 
 -- the cost of the arcs passed, and that it stays small
@@ -143,6 +162,13 @@ pub tension-is : (N : Network) (t : List ℕ) (a : ℕ) {z low : ℤ} {s : ℕ} 
 unfolding tension
 tension-is N t a e l q = e ∙ (λ j. l j +ℤ pos (q j))
 
+-- both rows have an entry for each arc
+pub room-of : (N : Network) (rows : ArcRows) → shortFor N rows ≡ false → (arcs N ≤ length (rows .tensions)) × (arcs N ≤ length (rows .turns))
+unfolding short
+room-of N rows e =
+    let n = neither _ _ e in
+    (ltb-false _ _ (n .0), ltb-false _ _ (n .1))
+
 pub written-none : {A : Type 0} (f : ℕ → A) (row : List A) → row ≡ written f 0 row
 unfolding written
 written-none f row = refl
@@ -156,11 +182,11 @@ unfolding written
 written-length f zero row = refl
 written-length f (suc k) row = length-set (written f k row) k (f k) ∙ written-length f k row
 
-pub written-at : (f : ℕ → ℕ) (k : ℕ) (row : List ℕ) (i : ℕ) → i < k → k ≤ length row → at (written f k row) i ≡ f i
+pub written-at : {A : Type 0} (d : A) (f : ℕ → A) (k : ℕ) (row : List A) (i : ℕ) → i < k → k ≤ length row → getD (written f k row) i d ≡ f i
 unfolding written
-written-at f zero row i h l = absurd (omega arith)
-written-at f (suc k) row i h l = go (eq-or-lt-of-le (omega arith)) (written-at f k row i)
+written-at d f zero row i h l = absurd (omega arith)
+written-at d f (suc k) row i h l = go (eq-or-lt-of-le (omega arith)) (written-at d f k row i)
   where
-    go : (i ≡ k) ⊎ (i < k) → (i < k → k ≤ length row → at (written f k row) i ≡ f i) → at (set (written f k row) k (f k)) i ≡ f i
-    go (inl e) r = rw e (getD-set-same (written f k row) k (f k) 0 (omega (arith, written-length f k row)))
-    go (inr m) r = getD-set-other (written f k row) k i (f k) 0 (λ e. omega arith) ∙ r m (omega arith)
+    go : (i ≡ k) ⊎ (i < k) → (i < k → k ≤ length row → getD (written f k row) i d ≡ f i) → getD (set (written f k row) k (f k)) i d ≡ f i
+    go (inl e) r = rw e (getD-set-same (written f k row) k (f k) d (omega (arith, written-length f k row)))
+    go (inr m) r = getD-set-other (written f k row) k i (f k) d (λ e. omega arith) ∙ r m (omega arith)

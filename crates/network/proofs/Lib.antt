@@ -5,3 +5,5 @@ pub mod Sound
 pub mod Trials
 pub mod Arcs
 pub mod Width
+pub mod Times
+pub mod Turns

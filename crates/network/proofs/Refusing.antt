@@ -121,13 +121,13 @@ clear c (more {r = r} {rs = rs} k ks) = go (eqb (r .code) c) (clear c ks)
 pub stopped : {r : Answer} (rs ss : List Refusal) (x : ℕ) → r ≡ answerOf rs 0 → (r .code ≡ 0 → ⊥) → r ≡ answerOf (rs ++ ss) x
 stopped rs ss x e n = e ∙ sym (stops rs ss x (λ z. n (ap (λ (a : Answer). a .code) e ∙ z)))
 
--- ---- a row after a call: as it was under any code but 0, written under code 0
+-- ---- what is lent, after a call: as it was under any code but 0, written under code 0
 
-pub after-kept : {A : Type 0} (r : Answer) (new was : List A) → (r .code ≡ 0 → ⊥) → after r new was ≡ was
+pub after-kept : {A : Type 0} (r : Answer) (new was : A) → (r .code ≡ 0 → ⊥) → after r new was ≡ was
 unfolding after
 after-kept r new was n = simp (ne-eqb (r .code) 0 n)
 
-pub after-written : {A : Type 0} (r : Answer) (new was : List A) → r .code ≡ 0 → after r new was ≡ new
+pub after-written : {A : Type 0} (r : Answer) (new was : A) → r .code ≡ 0 → after r new was ≡ new
 unfolding after
 after-written r new was e = simp (eq-eqb (r .code) 0 e)
 

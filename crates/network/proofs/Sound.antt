@@ -1,14 +1,14 @@
 -- What a well-formed network has. Assumes nothing.
 use mathlib.Core.Path.{_≡_, refl, sym, ap, _∙_, subst}
 use mathlib.Core.Bool.{Bool, true, false, _||_}
-use Prim.Native.Nat.{ℕ, _+_, _≤_, _<_}
+use Prim.Native.Nat.{ℕ, _≤_, _<_}
 use native.Mathlib.Omega.{arith}
 use borrow.Author.Tests.{ltb-false, leb-false, eqb-true, eqb-false, not-false}
 use lib.IntN.{ℤ, pos, negsuc, natAbs}
 use lib.Signed.{ltZ, _≤ℤ_}
 use lib.ListN.{length}
 use lib.Dec.{ltb, leb, eqb}
-use Rattle.numbers.proofs.Integers.{up, dn, leℤ, ofLe, ltZ-false}
+use Rattle.numbers.proofs.Integers.{absℤ, leℤ, ofLe, ltZ-false}
 use Rattle.numbers.proofs.Divisors.{gcd-pos, gcd-le}
 use Rattle.network.specs.declared.Answer.{Answer}
 use Rattle.network.specs.Network.{Network, events, arcs, period, tail, head, lower, upper, weight}
@@ -82,11 +82,7 @@ insideℤ {least} {greatest} x e =
 small : (low : ℤ) → outsideℤ (negsuc 7199) (pos 7200) low ≡ false → natAbs low ≤ 7200
 small low e =
     let i = insideℤ low e in
-    go low (ofLe (negsuc 7199) low (i .0)) (ofLe low (pos 7200) (i .1))
-  where
-    go : (z : ℤ) → 0 + dn z ≤ up z + 7200 → up z + 0 ≤ 7200 + dn z → natAbs z ≤ 7200
-    go (pos n) h k = omega arith
-    go (negsuc n) h k = omega arith
+    absℤ low (omega (arith, ofLe (negsuc 7199) low (i .0), ofLe low (pos 7200) (i .1)))
 
 ordered : (low high : ℤ) → ltZ high low ≡ false → low ≤ℤ high
 ordered low high e = leℤ low high (ltZ-false high low e)

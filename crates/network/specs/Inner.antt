@@ -1,20 +1,28 @@
 -- What inner functions ask of a well-formed network with a row of times, and what they say. Definitions alone.
 use mathlib.Core.Path.{_≡_}
 use mathlib.Core.List.{List}
+use mathlib.Core.Bool.{false}
 use Prim.Native.Nat.{ℕ, _≤_, _<_}
 use lib.IntN.{ℤ, natAbs, _-ℤ_}
 use lib.Signed.{_≤ℤ_}
 use lib.ListN.{length}
 use Rattle.network.specs.Network.{Network, events, arcs}
 use Rattle.numbers.specs.Row.{at}
-use Rattle.network.specs.PublicRule.{tension, costOf}
+use Rattle.network.specs.PublicRule.{Timetable, costOf}
 use Rattle.network.specs.Table.{WellFormed}
-use Rattle.network.specs.Rows.{written}
+use Rattle.network.specs.Rows.{ArcRows, shortFor, noted}
 
 -- bounds in order, less than the longest period apart
 pub record Span (low high : ℤ) : Type 0 where
   pub ordered : low ≤ℤ high
   pub small : natAbs (high -ℤ low) < 3600
+
+-- a period, a bound and two times so small that what is worked out of them fits 32 bits
+pub record Turning (g : ℕ) (low : ℤ) (from to : ℕ) : Type 0 where
+  pub some : 0 < g
+  pub lower-small : natAbs low ≤ 7200
+  pub from-small : from < 3600
+  pub to-small : to < 3600
 
 -- a listed tension for each arc
 pub record Listed (N : Network) (x : List ℤ) : Type 0 where
@@ -36,12 +44,13 @@ pub record TimedEnd (ends t : List ℕ) (a : ℕ) : Type 0 where
   pub arc : a < length ends
   pub event : at ends a < length t
 
--- a row with an entry for each arc
-pub record Room (N : Network) (t : List ℕ) (row : List ℤ) : Type 0 where
-  pub timed : Timed N t
-  pub room : arcs N ≤ length row
+-- a timetable, and rows with an entry for each arc
+pub record Room (N : Network) (t : List ℕ) (rows : ArcRows) : Type 0 where
+  pub well : WellFormed N
+  pub timetable : Timetable N t
+  pub room : shortFor N rows ≡ false
 
--- each arc's tension is written, and the cost is known
-pub record Noted (N : Network) (t : List ℕ) (was is : List ℤ) (sum : ℕ) : Type 0 where
-  pub row : is ≡ written (tension N t) (arcs N) was
+-- each arc's tension and turn are written, and the cost is known
+pub record Noted (N : Network) (t : List ℕ) (was is : ArcRows) (sum : ℕ) : Type 0 where
+  pub rows : is ≡ noted N t was
   pub cost : sum ≡ costOf N t

@@ -1,14 +1,14 @@
--- The public rule: arc period, slack, tension, met, working upper bound, timetable, feasible, cost, smaller. Definitions alone.
+-- The public rule: arc period, slack, tension, turn, met, working upper bound, timetable, feasible, cost, smaller. Definitions alone.
 use mathlib.Core.Path.{_≡_}
 use mathlib.Core.List.{List}
 use mathlib.Core.Bool.{Bool, true, cond}
 use Prim.Native.Nat.{ℕ, zero, suc, _+_, _*_, _<_}
-use lib.IntN.{ℤ, pos, natAbs, _+ℤ_, _-ℤ_}
+use lib.IntN.{ℤ, pos, natAbs, _+ℤ_, _-ℤ_, _*ℤ_}
 use lib.Signed.{leZ}
 use lib.ListN.{length}
 use lib.Dec.{ltb}
 use Rattle.numbers.specs.Divisor.{gcd}
-use Rattle.numbers.specs.Remainder.{remainder}
+use Rattle.numbers.specs.Remainder.{remainder, quotient}
 use Rattle.network.specs.Network.{Network, events, arcs, period, tail, head, lower, upper, weight}
 use Rattle.numbers.specs.Row.{at}
 
@@ -26,6 +26,20 @@ slack N t a = slackBy (arcPeriod N a) (lower N a) (at t (tail N a)) (at t (head 
 -- tension: lower plus slack
 unfoldable pub tension : Network → List ℕ → ℕ → ℤ
 tension N t a = lower N a +ℤ pos (slack N t a)
+
+-- turn: the whole number z with tension equal to head time less tail time plus z times g
+abbrev pub turnedBy : Network → List ℕ → ℕ → ℤ → ℤ
+turnedBy N t a z = (pos (at t (head N a)) -ℤ pos (at t (tail N a))) +ℤ (z *ℤ pos (arcPeriod N a))
+
+pub record Turn (N : Network) (t : List ℕ) (a : ℕ) (z : ℤ) : Type 0 where
+  pub is : tension N t a ≡ turnedBy N t a z
+
+-- the one number that `Turn` allows, computed: tension less (head time less tail time), over g
+abbrev pub turnBy : ℕ → ℤ → ℕ → ℕ → ℤ
+turnBy g x from to = quotient (x -ℤ (pos to -ℤ pos from)) g
+
+unfoldable pub turnOf : Network → List ℕ → ℕ → ℤ
+turnOf N t a = turnBy (arcPeriod N a) (tension N t a) (at t (tail N a)) (at t (head N a))
 
 -- met: the tension is at most the upper bound
 unfoldable pub met : Network → List ℕ → ℕ → Bool

@@ -36,8 +36,8 @@ unfoldable pub answerOf : List Refusal → ℕ → Answer
 answerOf [] cost = answer 0 0 cost
 answerOf (r ∷ rs) cost = cond (ltb (placeOf r) (r .places)) (answer (r .code) (placeOf r) 0) (answerOf rs cost)
 
--- a row after a call: written under code 0, as it was under any other
-unfoldable pub after : {A : Type 0} → Answer → List A → List A → List A
+-- what is lent, after a call: written under code 0, as it was under any other
+unfoldable pub after : {A : Type 0} → Answer → A → A → A
 after r new was = cond (eqb (r .code) 0) new was
 
 -- the counts with an answer: 0 under any code but 0

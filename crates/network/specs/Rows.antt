@@ -1,13 +1,14 @@
 -- What is read from and written to a lent row. Definitions alone.
 use mathlib.Core.List.{List}
-use mathlib.Core.Bool.{Bool, not}
+use mathlib.Core.Bool.{Bool, not, _||_}
 use Prim.Native.Nat.{ℕ, zero, suc}
-use lib.ListN.{set}
+use lib.ListN.{length, set}
 use lib.IntN.{ℤ}
-use lib.Dec.{leb}
-use Rattle.network.specs.Network.{Network, lower}
+use lib.Dec.{leb, ltb}
+use denote.Ref.{RefT, now}
+use Rattle.network.specs.Network.{Network, arcs, lower}
 use Rattle.numbers.specs.Row.{at, atℤ}
-use Rattle.network.specs.PublicRule.{met, working}
+use Rattle.network.specs.PublicRule.{tension, turnOf, met, working}
 use Rattle.network.specs.Table.{outsideℤ, differ}
 
 -- a time is not below its period
@@ -30,3 +31,26 @@ unmet N t a = not (met N t a)
 unfoldable pub written : {A : Type 0} → (ℕ → A) → ℕ → List A → List A
 written f zero row = row
 written f (suc k) row = set (written f k row) k (f k)
+
+-- the two rows that a call writes with an entry for each arc
+pub record ArcRows : Type 0 where
+  pub tensions : List ℤ
+  pub turns : List ℤ
+
+-- of two rows, and of two lent rows
+abbrev pub arcRows : List ℤ → List ℤ → ArcRows
+arcRows x z = record { tensions = x; turns = z }
+
+abbrev pub arcRowsOf : RefT (List ℤ) → RefT (List ℤ) → ArcRows
+arcRowsOf x z = arcRows (now x) (now z)
+
+-- of tensions and turns of these lengths, one has too few entries for m arcs
+unfoldable pub short : ℕ → ℕ → ℕ → Bool
+short tensions turns m = ltb tensions m || ltb turns m
+
+abbrev pub shortFor : Network → ArcRows → Bool
+shortFor N rows = short (length (rows .tensions)) (length (rows .turns)) (arcs N)
+
+-- each arc's tension and turn at these times are written
+unfoldable pub noted : Network → List ℕ → ArcRows → ArcRows
+noted N t rows = arcRows (written (tension N t) (arcs N) (rows .tensions)) (written (turnOf N t) (arcs N) (rows .turns))

@@ -5,12 +5,12 @@ ghost use lib.IntN.{pos, natAbs, _+ℤ_, _-ℤ_};
 ghost use lib.ListN.{length};
 ghost use Rattle.network.specs.Network.{netOf};
 ghost use Rattle.numbers.specs.Row.{at, atℤ};
-ghost use Rattle.network.specs.PublicRule.{arcPeriod, slackBy, workingBy, slack as slackOf, tension as tensionOf, met as metOf, costOf};
+ghost use Rattle.network.specs.PublicRule.{arcPeriod, slackBy, turnBy, workingBy, slack as slackOf, tension as tensionOf, met as metOf, costOf};
 ghost use Rattle.network.specs.First.{First};
 ghost use Rattle.network.specs.Table.{outsideℤ};
-ghost use Rattle.network.specs.Rows.{late, other, astray, unmet, written};
+ghost use Rattle.network.specs.Rows.{late, other, astray, unmet, written, arcRowsOf, short as shortOf};
 ghost use Rattle.network.specs.Trial.{AsksPeriod};
-ghost use Rattle.network.specs.Inner.{Span, Listed, Timed, TimedArc, TimedEnd, Room, Noted};
+ghost use Rattle.network.specs.Inner.{Span, Turning, Listed, Timed, TimedArc, TimedEnd, Room, Noted};
 
 // Entry i of a row, as a number of this machine's size.
 pub fn entry(row: &[u32], i: usize) -> usize
@@ -53,12 +53,29 @@ pub fn arc_period(
     numbers::gcd(periods[from], periods[to])
 }
 
-// The remainder by g of head time less tail time less lower.
+// Head time less tail time less lower.
+fn beyond(low: i32, from: u32, to: u32) -> i64
+    ensures { λ r. ⌜ r ≡ (pos to -ℤ pos from) -ℤ low ⌝ }
+{
+    numbers::difference(to, from) - (low as i64)
+}
+
+// Its remainder by g.
 pub fn slack_by(g: u32, low: i32, from: u32, to: u32) -> u32
     requires { ⌜ 0 < g ⌝ }
     ensures { λ r. ⌜ r ≡ slackBy g low from to ⌝ }
 {
-    numbers::remainder(numbers::difference(to, from) - (low as i64), g)
+    numbers::remainder(beyond(low, from, to), g)
+}
+
+// Tension less (head time less tail time), over g: as often as g goes into what these are beyond lower, with the other sign.
+fn turn_by(g: u32, low: i32, from: u32, to: u32) -> i32
+    requires { ⌜ Turning g low from to ⌝ }
+    ensures { λ r. ⌜ r ≡ turnBy g (low +ℤ pos (slackBy g low from to)) from to ⌝ }
+{
+    let q = numbers::quotient(beyond(low, from, to), g);
+    let z = 0 - q;
+    z as i32
 }
 
 // The working upper bound less lower: the slack up to which an arc is met.
@@ -265,8 +282,15 @@ pub fn cost(
     sum
 }
 
-// Writes each arc's tension, and returns the cost: the slack of an arc is worked out once for both.
-pub fn note_tensions(
+// Has a row of tensions or of turns too few entries for m arcs?
+pub fn short(tensions: usize, turns: usize, m: usize) -> bool
+    ensures { λ r. ⌜ r ≡ shortOf tensions turns m ⌝ }
+{
+    tensions < m || turns < m
+}
+
+// Writes each arc's tension and turn, and returns the cost: its period is worked out once for all three.
+pub fn note_arcs(
     periods: &[u32],
     tail: &[u32],
     head: &[u32],
@@ -275,16 +299,23 @@ pub fn note_tensions(
     weight: &[u32],
     times: &[u32],
     tensions: &mut [i32],
+    turns: &mut [i32],
 ) -> u64
-    requires { ⌜ Room (netOf periods tail head lower upper weight) (now times) (now tensions) ⌝ }
-    ensures { λ r. ⌜ Noted (netOf (periods .entry) (tail .entry) (head .entry) (lower .entry) (upper .entry) (weight .entry)) (now (times .entry)) (now (tensions .entry)) (now (tensions .exit)) r ⌝ }
+    requires { ⌜ Room (netOf periods tail head lower upper weight) (now times) (arcRowsOf tensions turns) ⌝ }
+    ensures { λ r. ⌜ Noted (netOf (periods .entry) (tail .entry) (head .entry) (lower .entry) (upper .entry) (weight .entry)) (now (times .entry)) (arcRowsOf (tensions .entry) (turns .entry)) (arcRowsOf (tensions .exit) (turns .exit)) r ⌝ }
 {
     let mut sum: u64 = 0;
     let mut arc = 0;
     while arc < tail.len() {
-        let s = slack(periods, tail, head, lower, upper, weight, times, arc);
-        let t = raised(bound(lower, arc), s);
+        let g = arc_period(periods, tail, head, lower, upper, weight, arc);
+        let low = bound(lower, arc);
+        let from = time_at(tail, times, arc);
+        let to = time_at(head, times, arc);
+        let s = slack_by(g, low, from, to);
+        let t = raised(low, s);
         tensions[arc] = t;
+        let z = turn_by(g, low, from, to);
+        turns[arc] = z;
         sum += arc_cost(weight[arc], s);
         arc += 1;
     }

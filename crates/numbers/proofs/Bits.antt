@@ -41,7 +41,7 @@ sub {w} p q f = subst (SFits w) (λ i. sym (p .is) i -ℤ sym (q .is) i) f
 pub sub-bits : {w : Width} {m n : ℕ} {y z : ℤ} → Bits w m y → Bits w n z → SFits w (y -ℤ z) → Bits w (ofZ w (toZ w m -ℤ toZ w n)) (y -ℤ z)
 sub-bits p q f = by (of (sub p q f)) (λ i. p .is i -ℤ q .is i)
 
--- a remainder by a positive number
+-- a quotient and a remainder by a positive number: both ask the same
 mag-neg : (r a : ℕ) → r ≤ suc a → mag (negℤ (pos r)) ≤ a
 mag-neg zero a h = omega arith
 mag-neg (suc r) a h = omega arith
@@ -52,6 +52,9 @@ mag-quot (negsuc a) g = mag-neg (suc a / g) a (div-le-self (suc a) g)
 
 pub rem : {w : Width} {m n g : ℕ} {z : ℤ} → Bits w m z → Bits w n (pos g) → SFits w z → SFits w (quotZ (toZ w m) (toZ w n))
 rem {w} {m} {n} {g} {z} p q f = subst (SFits w) (λ i. quotZ (sym (p .is) i) (sym (q .is) i)) (sfits-le (mag-quot z g) f)
+
+pub quot-bits : {w : Width} {m n g : ℕ} {z : ℤ} → Bits w m z → Bits w n (pos g) → SFits w z → Bits w (ofZ w (quotZ (toZ w m) (toZ w n))) (quotZ z (pos g))
+quot-bits p q f = by (of (rem p q f)) (λ i. quotZ (p .is i) (q .is i))
 
 pub rem-bits : {w : Width} {m n : ℕ} {y z : ℤ} → Bits w m y → Bits w n z → SFits w y → Bits w (ofZ w (remZ (toZ w m) (toZ w n))) (remZ y z)
 rem-bits {w} {m} {n} {y} {z} p q f = by (of (subst (SFits w) (λ i. remZ (sym (p .is) i) (sym (q .is) i)) (sfits-le (mag-rem y z) f))) (λ i. remZ (p .is i) (q .is i))

@@ -73,6 +73,10 @@ pub ofAbs : (a : ℤ) → natAbs a ≡ up a + dn a
 ofAbs (pos n) = omega arith
 ofAbs (negsuc n) = omega arith
 
+pub absℤ : (a : ℤ) {k : ℕ} → (up a ≤ dn a + k) × (dn a ≤ up a + k) → natAbs a ≤ k
+absℤ (pos n) h = omega (arith, h .0)
+absℤ (negsuc n) h = omega (arith, h .1)
+
 -- ---- the order, both ways
 
 pub ofLe : (a b : ℤ) → a ≤ℤ b → up a + dn b ≤ up b + dn a

@@ -1,5 +1,6 @@
 // The public calls, exported to C: each passes its rows on, and carries the contract of the call behind it.
 ghost use Rattle.network.specs.Network.{netOf};
+ghost use Rattle.network.specs.Rows.{arcRowsOf};
 ghost use Rattle.timetable.specs.Check.{Checked};
 ghost use Rattle.timetable.specs.Measure.{Measured};
 ghost use Rattle.timetable.specs.PrintText.{Printed};
@@ -34,10 +35,21 @@ pub extern "C" fn rubblewaltz_measure(
     weight: &[u32],
     times: &[u32],
     tensions: &mut [i32],
+    turns: &mut [i32],
 ) -> Answer
-    ensures { λ r. ⌜ Measured (netOf (periods .entry) (tail .entry) (head .entry) (lower .entry) (upper .entry) (weight .entry)) (now (times .entry)) (now (tensions .entry)) (now (tensions .exit)) r ⌝ }
+    ensures { λ r. ⌜ Measured (netOf (periods .entry) (tail .entry) (head .entry) (lower .entry) (upper .entry) (weight .entry)) (now (times .entry)) (arcRowsOf (tensions .entry) (turns .entry)) (arcRowsOf (tensions .exit) (turns .exit)) r ⌝ }
 {
-    timetable::measure::measure(periods, tail, head, lower, upper, weight, times, tensions)
+    timetable::measure::measure(
+        periods,
+        tail,
+        head,
+        lower,
+        upper,
+        weight,
+        times,
+        tensions,
+        turns,
+    )
 }
 
 #[no_mangle]
@@ -50,10 +62,21 @@ pub extern "C" fn rubblewaltz_solve(
     weight: &[u32],
     times: &mut [u32],
     tensions: &mut [i32],
+    turns: &mut [i32],
 ) -> Answer
-    ensures { λ r. ⌜ Solved (netOf (periods .entry) (tail .entry) (head .entry) (lower .entry) (upper .entry) (weight .entry)) (now (times .entry)) (now (tensions .entry)) (now (times .exit)) (now (tensions .exit)) r ⌝ }
+    ensures { λ r. ⌜ Solved (netOf (periods .entry) (tail .entry) (head .entry) (lower .entry) (upper .entry) (weight .entry)) (now (times .entry)) (arcRowsOf (tensions .entry) (turns .entry)) (now (times .exit)) (arcRowsOf (tensions .exit) (turns .exit)) r ⌝ }
 {
-    timetable::solve::solve(periods, tail, head, lower, upper, weight, times, tensions)
+    timetable::solve::solve(
+        periods,
+        tail,
+        head,
+        lower,
+        upper,
+        weight,
+        times,
+        tensions,
+        turns,
+    )
 }
 
 #[no_mangle]

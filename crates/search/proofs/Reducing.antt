@@ -88,13 +88,13 @@ module _ {N : Network} {o w g o′ w′ g′ : List ℕ} (lent : RowsLent N o w 
   has = sound N (lent .well)
 
   offset-at : (a : ℕ) → a < arcs N → at o′ a ≡ offsetOf N a
-  offset-at a h = ap (λ (l : List ℕ). at l a) (f .offsets-are) ∙ written-at (offsetOf N) (arcs N) o a h (omega (arith, lent .offsets-long))
+  offset-at a h = ap (λ (l : List ℕ). at l a) (f .offsets-are) ∙ written-at 0 (offsetOf N) (arcs N) o a h (omega (arith, lent .offsets-long))
 
   width-at : (a : ℕ) → a < arcs N → at w′ a ≡ widthOf N a
-  width-at a h = ap (λ (l : List ℕ). at l a) (f .widths-are) ∙ written-at (widthOf N) (arcs N) w a h (omega (arith, lent .widths-long))
+  width-at a h = ap (λ (l : List ℕ). at l a) (f .widths-are) ∙ written-at 0 (widthOf N) (arcs N) w a h (omega (arith, lent .widths-long))
 
   gap-at : (a : ℕ) → a < arcs N → at g′ a ≡ arcPeriod N a
-  gap-at a h = ap (λ (l : List ℕ). at l a) (f .gaps-are) ∙ written-at (arcPeriod N) (arcs N) g a h (omega (arith, lent .gaps-long))
+  gap-at a h = ap (λ (l : List ℕ). at l a) (f .gaps-are) ∙ written-at 0 (arcPeriod N) (arcs N) g a h (omega (arith, lent .gaps-long))
 
   pub sized : Sized R
   sized = record {

@@ -4,7 +4,7 @@ use mathlib.Core.List.{List, _++_}
 use mathlib.Core.Bool.{not}
 use Prim.Native.Nat.{ℕ}
 use native.Mathlib.Omega.{arith}
-use borrow.Author.Tests.{eqb-true, eq-eqb, not-false, lt-ltb, lt-leb, ltb-true, leb-false}
+use borrow.Author.Tests.{eqb-true, eq-eqb, not-false, lt-leb, ltb-true}
 use lib.ListN.{length}
 use Rattle.network.specs.declared.Answer.{Answer}
 use Rattle.network.specs.Network.{Network, events, period}
@@ -16,18 +16,16 @@ use Rattle.network.specs.Trial.{named}
 use Rattle.network.proofs.Refusing.{AllClear, coded, once-clear, succeeds, quiet, clear, front}
 use Rattle.network.proofs.Refusing.AllClear.{none, more}
 use Rattle.network.proofs.Sound.{all-clear, well-formed}
+use Rattle.network.proofs.Times.{on-time}
 use Rattle.timetable.specs.Check.{checkRefusals, checkOf, Checked}
 
 pub accepted : (N : Network) (t : List ℕ) {r : Answer} → Checked N t r → r .code ≡ 0 → WellFormed N × Feasible N t
-unfolding checkOf coded refusalsWith checkRefusals named allowed
+unfolding checkOf coded refusalsWith checkRefusals named
 accepted N t k z =
     let c : AllClear (refusals N ++ checkRefusals N t) = quiet (refusals N ++ checkRefusals N t) (costOf N t) refl (sym (ap (λ (a : Answer). a .code) (k .answer)) ∙ z) in (
       well-formed N (front (refusals N) (checkRefusals N t) c),
       record {
-        timetable = record {
-          long = eqb-true (length t) (events N) (not-false _ (clear 9 c .nowhere 0 (omega arith)));
-          inside = λ v h. lt-ltb _ _ (leb-false (period N v) (at t v) (clear 14 c .nowhere v h));
-        };
+        timetable = on-time (eqb-true (length t) (events N) (not-false _ (clear 9 c .nowhere 0 (omega arith)))) (clear 14 c .nowhere);
         each-met = λ a h. not-false _ (clear 15 c .nowhere a h);
       },
     )

@@ -2,24 +2,25 @@
 use mathlib.Core.Path.{_≡_, refl, _∙_}
 use mathlib.Core.List.{List, map, List·Memᴰ, List·Memᴰ·head, List·Memᴰ·tail}
 use Rattle.numbers.specs.Divisor.{gcd}
-use Rattle.numbers.specs.Remainder.{remainder}
-use Rattle.network.specs.PublicRule.{arcPeriod, slack, tension, working, widthOf, arcCost, costTo}
+use Rattle.numbers.specs.Remainder.{remainder, quotient}
+use Rattle.network.specs.PublicRule.{arcPeriod, slack, tension, turnOf, working, widthOf, arcCost, costTo}
 use Rattle.network.specs.First.{first}
-use Rattle.network.specs.Refusals.{answerOf}
+use Rattle.network.specs.Refusals.{answerOf, after}
 use Rattle.network.specs.Table.{outside, outsideℤ, uneven, strays, refusalsWith}
-use Rattle.network.specs.Rows.{written}
+use Rattle.network.specs.Rows.{written, short, noted}
 use Rattle.search.specs.Reduced.{metIn}
 use Rattle.search.specs.Model.{rowsFor, hinders, fits, tries, find, smallestOf}
 use Rattle.walks.specs.Model.{own, step, run, answer}
+use Rattle.timetable.specs.Measure.{measureRefusals, measureOf}
 use Rattle.timetable.specs.Solve.{solveRefusals, solveJudged}
 use Rattle.timetable.specs.Rebuild.{rebuildRefusals, rebuildJudged}
-use Rattle.timetable.specs.Model.{Outcome, solveModel, rebuildModel, computed, Meets}
+use Rattle.timetable.specs.Model.{Outcome, measureModel, solveModel, rebuildModel, computed, Meets}
 use Rattle.timetable.specs.Cases.{Case, cases}
 use Rattle.timetable.proofs.Models.{only}
 
 -- one test over the whole list
 all : map (λ (c : Case). computed (c .call)) cases ≡ map (λ (c : Case). c .said) cases
-unfolding gcd remainder arcPeriod slack tension working widthOf arcCost costTo first answerOf outside outsideℤ uneven strays refusalsWith written metIn rowsFor hinders fits tries find smallestOf own step run answer solveRefusals solveJudged rebuildRefusals rebuildJudged solveModel rebuildModel
+unfolding gcd remainder quotient arcPeriod slack tension turnOf working widthOf arcCost costTo first answerOf after outside outsideℤ uneven strays refusalsWith written short noted metIn rowsFor hinders fits tries find smallestOf own step run answer measureRefusals measureOf solveRefusals solveJudged rebuildRefusals rebuildJudged measureModel solveModel rebuildModel
 all = refl
 
 -- and so of each case

@@ -6,6 +6,7 @@ use lib.IntN.{ℤ}
 use Rattle.network.specs.declared.Answer.{Answer}
 use Rattle.network.specs.declared.Filled.{Filled}
 use Rattle.network.specs.Network.{Network, net}
+use Rattle.network.specs.Rows.{ArcRows}
 use Rattle.network.proofs.Refusing.{after-kept, filled-code}
 use Rattle.timetable.specs.Measure.{Measured}
 use Rattle.timetable.specs.PrintText.{printOf, Printed}
@@ -17,11 +18,11 @@ use Rattle.timetable.specs.Solve.{Solved}
 use Rattle.timetable.specs.Solve.Found.{infeasible, solved}
 use Rattle.timetable.specs.Solve.Solved.{refused, searched}
 
-pub measure-kept : {N : Network} {t : List ℕ} {was is : List ℤ} {r : Answer} → (r .code ≡ 0 → ⊥) → Measured N t was is r → is ≡ was
-measure-kept {r = r} n p = p .row ∙ after-kept r _ _ n
+pub measure-kept : {N : Network} {t : List ℕ} {was is : ArcRows} {r : Answer} → (r .code ≡ 0 → ⊥) → Measured N t was is r → is ≡ was
+measure-kept {r = r} n p = p .rows ∙ after-kept r _ _ n
 
-pub solve-kept : {N : Network} {times times′ : List ℕ} {tensions tensions′ : List ℤ} {r : Answer}
-    → (r .code ≡ 0 → ⊥) → Solved N times tensions times′ tensions′ r → (times′ ≡ times) × (tensions′ ≡ tensions)
+pub solve-kept : {N : Network} {times times′ : List ℕ} {rows rows′ : ArcRows} {r : Answer}
+    → (r .code ≡ 0 → ⊥) → Solved N times rows times′ rows′ r → (times′ ≡ times) × (rows′ ≡ rows)
 solve-kept n (refused m a e f) = (e, f)
 solve-kept n (searched z (infeasible m e f a)) = (e, f)
 solve-kept n (searched z (solved t p e f a)) = absurd (n (ap (λ (o : Answer). o .code) a))

@@ -87,9 +87,9 @@ rows-differ {N} {x} {y} {times} {times′} {also} {also′} p z q w same =
     let u = b .2 .table in
     let e : t ≡ u = ext-getD 0 t u (a .2 .stands .timetable .long ∙ sym (b .2 .stands .timetable .long))
     (λ v h. let i : v < events N = omega (arith, a .2 .stands .timetable .long) in
-    sym (ap (λ (l : List ℕ). at l v) (a .2 .times-are) ∙ written-at (at t) (events N) times v i (a .1))
+    sym (ap (λ (l : List ℕ). at l v) (a .2 .times-are) ∙ written-at 0 (at t) (events N) times v i (a .1))
     ∙ same v i
-    ∙ ap (λ (l : List ℕ). at l v) (b .2 .times-are) ∙ written-at (at u) (events N) also v i (b .1)) in
+    ∙ ap (λ (l : List ℕ). at l v) (b .2 .times-are) ∙ written-at 0 (at u) (events N) also v i (b .1)) in
     ext-getD (pos 0) x y (a .0 .long ∙ sym (b .0 .long))
     (λ k h. let i : k < arcs N = omega (arith, a .0 .long) in
     sym (a .2 .stands .tensions k i) ∙ ap (λ (l : List ℕ). tension N l k) e ∙ b .2 .stands .tensions k i)

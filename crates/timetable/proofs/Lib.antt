@@ -14,3 +14,4 @@ pub mod Again
 pub mod Accepts
 pub mod Models
 pub mod Cases
+pub mod Turned

@@ -1,4 +1,4 @@
--- Whatever the contracts of solve and rebuild allow is what antt computes. Assumes nothing.
+-- Whatever the contracts of measure, solve and rebuild allow is what antt computes. Assumes nothing.
 use mathlib.Core.Path.{_≡_, refl, sym, _∙_}
 use mathlib.Core.List.{List}
 use mathlib.Core.Option.{Option, some, none}
@@ -10,6 +10,7 @@ use lib.Dec.{eqb}
 use Rattle.numbers.specs.Row.{atℤ}
 use Rattle.network.specs.declared.Answer.{Answer}
 use Rattle.network.specs.Network.{Network, events, arcs, period}
+use Rattle.network.specs.Rows.{ArcRows}
 use Rattle.search.specs.Model.{smallestOf}
 use Rattle.search.proofs.Models.{Right as Searched, smallest-right}
 use Rattle.walks.specs.Model.{Out, timetable, refused as stuck, answerFor}
@@ -22,25 +23,29 @@ use Rattle.timetable.specs.Solve.Solved.{refused, searched}
 use Rattle.timetable.specs.Rebuild.{rebuildJudged, graph}
 use Rattle.timetable.specs.Rebuild.Restored.{impossible, restored}
 use Rattle.timetable.specs.Rebuild.Rebuilt.{refused as not-judged, judged}
-use Rattle.timetable.specs.Model.{Outcome, outcome, settleBy, solveModel, restoreBy, rebuildModel, Call, solve, rebuild, computed, Meets}
+use Rattle.timetable.specs.Model.{Outcome, outcome, measureModel, settleBy, solveModel, listed, restoreBy, rebuildModel, Call, measure, solve, rebuild, computed, Meets}
 use Rattle.timetable.proofs.Sheets.{common, between, stands}
 use Rattle.timetable.proofs.Solves.{solve-well}
 use Rattle.timetable.proofs.Rebuilds.{sheet-judged}
-use Rattle.timetable.proofs.One.{solve-one, rebuild-one}
+use Rattle.timetable.proofs.One.{measure-one, solve-one, rebuild-one}
 
-solve-meets : (N : Network) (times : List ℕ) (tensions : List ℤ) → Meets (solve N times tensions) (solveModel N times tensions)
+measure-meets : (N : Network) (t : List ℕ) (rows : ArcRows) → Meets (measure N t rows) (measureModel N t rows)
+unfolding measureModel
+measure-meets N t rows = (record { answer = refl; rows = refl }, refl)
+
+solve-meets : (N : Network) (times : List ℕ) (rows : ArcRows) → Meets (solve N times rows) (solveModel N times rows)
 unfolding solveModel
-solve-meets N times tensions = go (eqb (r .code) 0) refl
+solve-meets N times rows = go (eqb (r .code) 0) refl
   where
     r : Answer
-    r = solveJudged N times tensions
+    r = solveJudged N times rows
 
-    found : r .code ≡ 0 → (o : Option (List ℕ)) → Searched N o → Meets (solve N times tensions) (settleBy N times tensions o)
+    found : r .code ≡ 0 → (o : Option (List ℕ)) → Searched N o → Meets (solve N times rows) (settleBy N times rows o)
     found z (some t) p = searched z (solved t p refl refl refl)
     found z none p = searched z (infeasible p refl refl refl)
 
-    go : (b : Bool) → eqb (r .code) 0 ≡ b → Meets (solve N times tensions) (cond {A = Outcome} b (settleBy N times tensions (smallestOf N)) (outcome times tensions r))
-    go true e = let z = eqb-true (r .code) 0 e in found z (smallestOf N) (smallest-right N (solve-well N times tensions z))
+    go : (b : Bool) → eqb (r .code) 0 ≡ b → Meets (solve N times rows) (cond {A = Outcome} b (settleBy N times rows (smallestOf N)) (outcome times rows r))
+    go true e = let z = eqb-true (r .code) 0 e in found z (smallestOf N) (smallest-right N (solve-well N times rows z))
     go false e = refused (eqb-false (r .code) 0 e) refl refl refl
 
 rebuild-meets : (N : Network) (x : List ℤ) (times : List ℕ) → Meets (rebuild N x times) (rebuildModel N x times)
@@ -57,7 +62,7 @@ rebuild-meets N x times = go (eqb (r .code) 0) refl
     walked z (timetable t) p = (judged z (restored t (stands (sheet-judged N x times z) (p .events) (anchored (p .labelled))) refl refl), refl)
     walked z (stuck k) p = (judged z (impossible k (p .inside) (p .allowed) (λ c. p .not-closed (closed c)) refl refl), refl)
 
-    go : (b : Bool) → eqb (r .code) 0 ≡ b → Meets (rebuild N x times) (cond {A = Outcome} b (restoreBy N x times found) (outcome times x r))
+    go : (b : Bool) → eqb (r .code) 0 ≡ b → Meets (rebuild N x times) (cond {A = Outcome} b (restoreBy N x times found) (outcome times (listed x) r))
     go true e =
         let z = eqb-true (r .code) 0 e in
         let s = sheet-judged N x times z in
@@ -66,13 +71,18 @@ rebuild-meets N x times = go (eqb (r .code) 0) refl
 
 -- what antt computes of a call meets its contract
 pub meets : (c : Call) → Meets c (computed c)
-meets (solve N times tensions) = solve-meets N times tensions
+meets (measure N t rows) = measure-meets N t rows
+meets (solve N times rows) = solve-meets N times rows
 meets (rebuild N x times) = rebuild-meets N x times
 
 -- and is the one outcome that does
 pub only : (c : Call) {o : Outcome} → Meets c o → o ≡ computed c
-only (solve N times tensions) p =
-    let e = solve-one p (meets (solve N times tensions)) in
+only (measure N t rows) p =
+    let q = meets (measure N t rows) in
+    let e = measure-one (p .0) (q .0) in
+    λ j. outcome ((p .1 ∙ sym (q .1)) j) (e .0 j) (e .1 j)
+only (solve N times rows) p =
+    let e = solve-one p (meets (solve N times rows)) in
     λ j. outcome (e .0 j) (e .1 j) (e .2 j)
 only (rebuild N x times) p =
     let q = meets (rebuild N x times) in

@@ -6,11 +6,11 @@ use native.Mathlib.Omega.{arith}
 use lib.IntN.{ℤ}
 use Rattle.network.specs.declared.Answer.{Answer}
 use Rattle.network.specs.declared.Filled.{Filled}
-use Rattle.network.specs.Network.{Network, net, events, arcs}
+use Rattle.network.specs.Network.{Network, net, events}
 use Rattle.numbers.specs.Row.{at}
-use Rattle.network.specs.PublicRule.{tension, costOf}
+use Rattle.network.specs.PublicRule.{costOf}
 use Rattle.network.specs.Refusals.{answer, after}
-use Rattle.network.specs.Rows.{written}
+use Rattle.network.specs.Rows.{written, ArcRows, noted}
 use Rattle.search.proofs.Agreeing.{smallest-one}
 use Rattle.timetable.specs.Check.{Checked}
 use Rattle.timetable.specs.Measure.{Measured}
@@ -28,25 +28,25 @@ use Rattle.timetable.proofs.Rebuilds.{sheet-judged}
 pub check-one : {N : Network} {t : List ℕ} {r s : Answer} → Checked N t r → Checked N t s → r ≡ s
 check-one p q = p .answer ∙ sym (q .answer)
 
-pub measure-one : {N : Network} {t : List ℕ} {was is also : List ℤ} {r s : Answer} → Measured N t was is r → Measured N t was also s → (is ≡ also) × (r ≡ s)
+pub measure-one : {N : Network} {t : List ℕ} {was is also : ArcRows} {r s : Answer} → Measured N t was is r → Measured N t was also s → (is ≡ also) × (r ≡ s)
 measure-one {N} {t} {was} p q =
     let e = p .answer ∙ sym (q .answer) in
-    (p .row ∙ ap (λ (o : Answer). after o (written (tension N t) (arcs N) was) was) e ∙ sym (q .row), e)
+    (p .rows ∙ ap (λ (o : Answer). after o (noted N t was) was) e ∙ sym (q .rows), e)
 
-found-one : {N : Network} {times times′ also : List ℕ} {tensions tensions′ too : List ℤ} {r s : Answer}
-    → Found N times tensions times′ tensions′ r → Found N times tensions also too s → (times′ ≡ also) × (tensions′ ≡ too) × (r ≡ s)
+found-one : {N : Network} {times times′ also : List ℕ} {rows rows′ too : ArcRows} {r s : Answer}
+    → Found N times rows times′ rows′ r → Found N times rows also too s → (times′ ≡ also) × (rows′ ≡ too) × (r ≡ s)
 found-one (infeasible n e f a) (infeasible m e′ f′ b) = (e ∙ sym e′, f ∙ sym f′, a ∙ sym b)
 found-one (infeasible n e f a) (solved t p e′ f′ b) = absurd (n t (p .feasible))
 found-one (solved t p e f a) (infeasible n e′ f′ b) = absurd (n t (p .feasible))
-found-one {N} {times} {tensions = tensions} (solved t p e f a) (solved u q e′ f′ b) =
+found-one {N} {times} {rows = rows} (solved t p e f a) (solved u q e′ f′ b) =
     let o = smallest-one p q in (
       e ∙ ap (λ (l : List ℕ). written (at l) (events N) times) o ∙ sym e′,
-      f ∙ ap (λ (l : List ℕ). written (tension N l) (arcs N) tensions) o ∙ sym f′,
+      f ∙ ap (λ (l : List ℕ). noted N l rows) o ∙ sym f′,
       a ∙ ap (λ (l : List ℕ). answer 0 0 (costOf N l)) o ∙ sym b,
     )
 
-pub solve-one : {N : Network} {times times′ also : List ℕ} {tensions tensions′ too : List ℤ} {r s : Answer}
-    → Solved N times tensions times′ tensions′ r → Solved N times tensions also too s → (times′ ≡ also) × (tensions′ ≡ too) × (r ≡ s)
+pub solve-one : {N : Network} {times times′ also : List ℕ} {rows rows′ too : ArcRows} {r s : Answer}
+    → Solved N times rows times′ rows′ r → Solved N times rows also too s → (times′ ≡ also) × (rows′ ≡ too) × (r ≡ s)
 solve-one (refused n a e f) (refused m b e′ f′) = (e ∙ sym e′, f ∙ sym f′, a ∙ sym b)
 solve-one (refused n a e f) (searched z q) = absurd (n (ap (λ (o : Answer). o .code) a ∙ z))
 solve-one (searched z p) (refused n a e f) = absurd (n (ap (λ (o : Answer). o .code) a ∙ z))

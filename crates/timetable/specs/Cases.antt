@@ -1,11 +1,13 @@
--- The paper's cases P1 to P11: one list. A weight that the paper leaves out is 1. Definitions alone.
+-- The paper's cases P1 to P11 with the turns of each timetable, and the clerks' question: one list. A weight that the paper leaves out is 1.
+-- Definitions alone.
 use mathlib.Core.List.{List, [], _∷_, _++_, map}
-use Prim.Native.Nat.{ℕ, _+_}
-use lib.IntN.{ℤ, pos}
+use Prim.Native.Nat.{ℕ, _+_, _-_}
+use lib.IntN.{ℤ, pos, negsuc}
 use lib.ListN.{replicate}
 use Rattle.network.specs.Network.{Network, net, events, arcs}
 use Rattle.network.specs.Refusals.{answer}
-use Rattle.timetable.specs.Model.{Outcome, outcome, Call, solve, rebuild}
+use Rattle.network.specs.Rows.{ArcRows, arcRows}
+use Rattle.timetable.specs.Model.{Outcome, outcome, listed, Call, measure, solve, rebuild}
 
 -- a call, and the outcome that it must have
 pub record Case : Type 0 where
@@ -40,29 +42,43 @@ twice l u = net (60 ∷ 60 ∷ []) (0 ∷ 0 ∷ []) (1 ∷ 1 ∷ []) (signed l) 
 abbrev lent : ℕ → List ℕ
 lent k = replicate k 99
 
--- solve writes these times and tensions at this cost, and keeps `spare` entries more of each row
-abbrev solvesIn : ℕ → Network → List ℕ → List ℕ → ℕ → Case
-solvesIn spare N t x cost = record {
-  call = solve N (lent (events N + spare)) (signed (lent (arcs N + spare)));
-  said = outcome (t ++ lent spare) (signed (x ++ lent spare)) (answer 0 0 cost);
+-- and for both rows of the arcs
+abbrev lentRows : ℕ → ArcRows
+lentRows k = arcRows (signed (lent k)) (signed (lent k))
+
+-- measure writes these tensions and turns at this cost
+abbrev measures : Network → List ℕ → List ℤ → List ℤ → ℕ → Case
+measures N t x z cost = record { call = measure N t (lentRows (arcs N)); said = outcome t (arcRows x z) (answer 0 0 cost) }
+
+-- solve writes these times, tensions and turns at this cost, and keeps `spare` entries more of each row
+abbrev solvesIn : ℕ → Network → List ℕ → List ℕ → List ℕ → ℕ → Case
+solvesIn spare N t x z cost = record {
+  call = solve N (lent (events N + spare)) (lentRows (arcs N + spare));
+  said = outcome (t ++ lent spare) (arcRows (signed (x ++ lent spare)) (signed (z ++ lent spare))) (answer 0 0 cost);
 }
 
 -- the same in rows of exactly n and m entries
-abbrev solves : Network → List ℕ → List ℕ → ℕ → Case
+abbrev solves : Network → List ℕ → List ℕ → List ℕ → ℕ → Case
 solves = solvesIn 0
 
--- solve refuses with this code and place, and keeps both rows
+-- solve refuses with this code and place, and keeps the rows
 abbrev refuses : Network → ℕ → ℕ → Case
 refuses N code place = record {
-  call = solve N (lent (events N)) (signed (lent (arcs N)));
-  said = outcome (lent (events N)) (signed (lent (arcs N))) (answer code place 0);
+  call = solve N (lent (events N)) (lentRows (arcs N));
+  said = outcome (lent (events N)) (lentRows (arcs N)) (answer code place 0);
 }
+
+-- solve refuses a row of turns that lacks an entry, and keeps the rows
+abbrev turnsShort : Network → Case
+turnsShort N =
+    let rows = arcRows (signed (lent (arcs N))) (signed (lent (arcs N - 1))) in
+    record { call = solve N (lent (events N)) rows; said = outcome (lent (events N)) rows (answer 9 0 0) }
 
 -- rebuild from the tensions x writes these times at this cost, and keeps `spare` entries more
 abbrev rebuildsIn : ℕ → Network → List ℕ → List ℕ → ℕ → Case
 rebuildsIn spare N x t cost = record {
   call = rebuild N (signed x) (lent (events N + spare));
-  said = outcome (t ++ lent spare) (signed x) (answer 0 0 cost);
+  said = outcome (t ++ lent spare) (listed (signed x)) (answer 0 0 cost);
 }
 
 -- the same in a row of exactly n entries
@@ -73,26 +89,29 @@ rebuilds = rebuildsIn 0
 abbrev rejects : Network → List ℕ → ℕ → ℕ → Case
 rejects N x code place = record {
   call = rebuild N (signed x) (lent (events N));
-  said = outcome (lent (events N)) (signed x) (answer code place 0);
+  said = outcome (lent (events N)) (listed (signed x)) (answer code place 0);
 }
 
 -- ---- the list, in the paper's order
 abbrev pub cases : List Case
 cases =
-    solves A₁ (0 ∷ 10 ∷ 30 ∷ []) (10 ∷ 20 ∷ 30 ∷ []) 4  -- P1
-    ∷ solvesIn 2 A₁ (0 ∷ 10 ∷ 30 ∷ []) (10 ∷ 20 ∷ 30 ∷ []) 4  -- P1 in rows longer than needed
+    solves A₁ (0 ∷ 10 ∷ 30 ∷ []) (10 ∷ 20 ∷ 30 ∷ []) (0 ∷ 0 ∷ 1 ∷ []) 4  -- P1
+    ∷ solvesIn 2 A₁ (0 ∷ 10 ∷ 30 ∷ []) (10 ∷ 20 ∷ 30 ∷ []) (0 ∷ 0 ∷ 1 ∷ []) 4  -- P1 in rows longer than needed
+    ∷ turnsShort A₁  -- P1 in a row of turns too short
     ∷ refuses (A (10 ∷ 10 ∷ 10 ∷ []) (12 ∷ 12 ∷ 12 ∷ [])) 10 0  -- P2
-    ∷ solves (A (20 ∷ 20 ∷ 20 ∷ []) (20 ∷ 20 ∷ 20 ∷ [])) (0 ∷ 20 ∷ 40 ∷ []) (20 ∷ 20 ∷ 20 ∷ []) 0  -- P3
+    ∷ solves (A (20 ∷ 20 ∷ 20 ∷ []) (20 ∷ 20 ∷ 20 ∷ [])) (0 ∷ 20 ∷ 40 ∷ []) (20 ∷ 20 ∷ 20 ∷ []) (0 ∷ 0 ∷ 1 ∷ []) 0  -- P3
     ∷ refuses (A (19 ∷ 20 ∷ 20 ∷ []) (19 ∷ 20 ∷ 20 ∷ [])) 10 0  -- P3 with arc 0 at [19,19]
-    ∷ solves (one (60 ∷ 20 ∷ []) 0 1 25 30) (0 ∷ 5 ∷ []) (25 ∷ []) 0  -- P4
-    ∷ solves (one (60 ∷ 20 ∷ []) 1 0 25 30) (0 ∷ 10 ∷ []) (30 ∷ []) 5  -- P5
-    ∷ solves (twice (10 ∷ 14 ∷ []) (15 ∷ 20 ∷ [])) (0 ∷ 14 ∷ []) (14 ∷ 14 ∷ []) 4  -- P6
+    ∷ solves (one (60 ∷ 20 ∷ []) 0 1 25 30) (0 ∷ 5 ∷ []) (25 ∷ []) (1 ∷ []) 0  -- P4
+    ∷ solves (one (60 ∷ 20 ∷ []) 1 0 25 30) (0 ∷ 10 ∷ []) (30 ∷ []) (2 ∷ []) 5  -- P5
+    ∷ solves (twice (10 ∷ 14 ∷ []) (15 ∷ 20 ∷ [])) (0 ∷ 14 ∷ []) (14 ∷ 14 ∷ []) (0 ∷ 0 ∷ []) 4  -- P6
     ∷ rebuilds A₁ (12 ∷ 20 ∷ 28 ∷ []) (0 ∷ 12 ∷ 32 ∷ []) 6  -- P7
     ∷ rebuildsIn 2 A₁ (12 ∷ 20 ∷ 28 ∷ []) (0 ∷ 12 ∷ 32 ∷ []) 6  -- P7 in a row longer than needed
     ∷ rejects A₁ (10 ∷ 21 ∷ 30 ∷ []) 13 2  -- P8
     ∷ rejects A₁ (10 ∷ 25 ∷ 25 ∷ []) 12 2  -- P8 from 10, 25, 25
     ∷ rebuilds (one (60 ∷ 60 ∷ 60 ∷ 60 ∷ []) 3 1 5 9) (5 ∷ []) (0 ∷ 0 ∷ 0 ∷ 55 ∷ []) 0  -- P9
-    ∷ solves (one (1 ∷ 1 ∷ []) 0 1 7 7) (0 ∷ 0 ∷ []) (7 ∷ []) 0  -- P10
-    ∷ solves (one (60 ∷ 60 ∷ []) 0 1 0 59) (0 ∷ 0 ∷ []) (0 ∷ []) 0  -- P11
-    ∷ solves (one (60 ∷ 60 ∷ []) 0 1 0 60) (0 ∷ 0 ∷ []) (0 ∷ []) 0  -- P11 with [0,60]
+    ∷ solves (one (1 ∷ 1 ∷ []) 0 1 7 7) (0 ∷ 0 ∷ []) (7 ∷ []) (7 ∷ []) 0  -- P10
+    ∷ solves (one (60 ∷ 60 ∷ []) 0 1 0 59) (0 ∷ 0 ∷ []) (0 ∷ []) (0 ∷ []) 0  -- P11
+    ∷ solves (one (60 ∷ 60 ∷ []) 0 1 0 60) (0 ∷ 0 ∷ []) (0 ∷ []) (0 ∷ []) 0  -- P11 with [0,60]
+    ∷ measures (one (60 ∷ 60 ∷ []) 0 1 30 30) (50 ∷ 20 ∷ []) (pos 30 ∷ []) (pos 1 ∷ []) 0  -- the clerks' minutes 50 and 20
+    ∷ measures (net (60 ∷ 20 ∷ []) (0 ∷ []) (1 ∷ []) (negsuc 34 ∷ []) (pos 0 ∷ []) (1 ∷ [])) (0 ∷ 5 ∷ []) (negsuc 34 ∷ []) (negsuc 1 ∷ []) 0  -- below zero, by 20
     ∷ []

@@ -1,6 +1,6 @@
--- Solve and rebuild as antt computes them. Definitions alone.
+-- Measure, solve and rebuild as antt computes them. Definitions alone.
 use mathlib.Core.Path.{_≡_}
-use mathlib.Core.List.{List}
+use mathlib.Core.List.{List, []}
 use mathlib.Core.Option.{Option, some, none}
 use mathlib.Core.Bool.{cond}
 use Prim.Native.Nat.{ℕ}
@@ -8,58 +8,70 @@ use lib.IntN.{ℤ}
 use lib.Dec.{eqb}
 use Rattle.numbers.specs.Row.{at}
 use Rattle.network.specs.declared.Answer.{Answer}
-use Rattle.network.specs.Network.{Network, events, arcs, period}
-use Rattle.network.specs.PublicRule.{tension, costOf}
-use Rattle.network.specs.Refusals.{answer}
-use Rattle.network.specs.Rows.{written}
+use Rattle.network.specs.Network.{Network, events, period}
+use Rattle.network.specs.PublicRule.{costOf}
+use Rattle.network.specs.Refusals.{answer, after}
+use Rattle.network.specs.Rows.{written, ArcRows, arcRows, noted}
 use Rattle.search.specs.Model.{smallestOf}
 use Rattle.walks.specs.Model.{Out, timetable, refused, answerFor}
+use Rattle.timetable.specs.Measure.{measureOf, Measured}
 use Rattle.timetable.specs.Solve.{solveJudged, Solved}
 use Rattle.timetable.specs.Rebuild.{rebuildJudged, Rebuilt}
 
--- the rows of times and of tensions after a call, and its answer
+-- the row of times and those of the arcs after a call, and its answer
 pub record Outcome : Type 0 where
   pub times : List ℕ
-  pub tensions : List ℤ
+  pub rows : ArcRows
   pub reply : Answer
 
 -- the outcome of these three
-abbrev pub outcome : List ℕ → List ℤ → Answer → Outcome
-outcome t x r = record { times = t; tensions = x; reply = r }
+abbrev pub outcome : List ℕ → ArcRows → Answer → Outcome
+outcome t rows r = record { times = t; rows = rows; reply = r }
+
+-- measure: the answer, and the rows that follow from it
+unfoldable pub measureModel : Network → List ℕ → ArcRows → Outcome
+measureModel N t rows = let r = measureOf N t rows in outcome t (after r (noted N t rows) rows) r
 
 -- what solve leaves, by what the search found
-abbrev pub settleBy : Network → List ℕ → List ℤ → Option (List ℕ) → Outcome
-settleBy N times tensions (some t) = outcome (written (at t) (events N) times) (written (tension N t) (arcs N) tensions) (answer 0 0 (costOf N t))
-settleBy N times tensions none = outcome times tensions (answer 10 0 0)
+abbrev pub settleBy : Network → List ℕ → ArcRows → Option (List ℕ) → Outcome
+settleBy N times rows (some t) = outcome (written (at t) (events N) times) (noted N t rows) (answer 0 0 (costOf N t))
+settleBy N times rows none = outcome times rows (answer 10 0 0)
 
 -- solve: the first refusal and the rows as they were, or by the search
-unfoldable pub solveModel : Network → List ℕ → List ℤ → Outcome
-solveModel N times tensions =
-    let r = solveJudged N times tensions in
-    cond {A = Outcome} (eqb (r .code) 0) (settleBy N times tensions (smallestOf N)) (outcome times tensions r)
+unfoldable pub solveModel : Network → List ℕ → ArcRows → Outcome
+solveModel N times rows =
+    let r = solveJudged N times rows in
+    cond {A = Outcome} (eqb (r .code) 0) (settleBy N times rows (smallestOf N)) (outcome times rows r)
+
+-- the tensions alone: rebuild is lent no turns
+abbrev pub listed : List ℤ → ArcRows
+listed x = arcRows x []
 
 -- what rebuild leaves, by what the walks found
 abbrev pub restoreBy : Network → List ℤ → List ℕ → Out → Outcome
-restoreBy N x times (timetable t) = outcome (written (at t) (events N) times) x (answer 0 0 (costOf N t))
-restoreBy N x times (refused k) = outcome times x (answer 13 k 0)
+restoreBy N x times (timetable t) = outcome (written (at t) (events N) times) (listed x) (answer 0 0 (costOf N t))
+restoreBy N x times (refused k) = outcome times (listed x) (answer 13 k 0)
 
 -- rebuild: the first refusal and the rows as they were, or by the walks
 unfoldable pub rebuildModel : Network → List ℤ → List ℕ → Outcome
 rebuildModel N x times =
     let r = rebuildJudged N x times in
-    cond {A = Outcome} (eqb (r .code) 0) (restoreBy N x times (answerFor (N .tails) (N .heads) x (period N 0) (events N))) (outcome times x r)
+    cond {A = Outcome} (eqb (r .code) 0) (restoreBy N x times (answerFor (N .tails) (N .heads) x (period N 0) (events N))) (outcome times (listed x) r)
 
 -- a call, with the network and the rows lent to it
 pub data Call : Type 0 where
-  solve : Network → List ℕ → List ℤ → Call
+  measure : Network → List ℕ → ArcRows → Call
+  solve : Network → List ℕ → ArcRows → Call
   rebuild : Network → List ℤ → List ℕ → Call
 
 -- what antt computes of a call
 abbrev pub computed : Call → Outcome
-computed (solve N times tensions) = solveModel N times tensions
+computed (measure N t rows) = measureModel N t rows
+computed (solve N times rows) = solveModel N times rows
 computed (rebuild N x times) = rebuildModel N x times
 
--- an outcome that the contract of the call allows; rebuild only reads the tensions
+-- an outcome that the contract of the call allows; measure only reads the times, and rebuild the tensions
 abbrev pub Meets : Call → Outcome → Type 0
-Meets (solve N times tensions) o = Solved N times tensions (o .times) (o .tensions) (o .reply)
-Meets (rebuild N x times) o = Rebuilt N x times (o .times) (o .reply) × (o .tensions ≡ x)
+Meets (measure N t rows) o = Measured N t rows (o .rows) (o .reply) × (o .times ≡ t)
+Meets (solve N times rows) o = Solved N times rows (o .times) (o .rows) (o .reply)
+Meets (rebuild N x times) o = Rebuilt N x times (o .times) (o .reply) × (o .rows ≡ listed x)

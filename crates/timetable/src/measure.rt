@@ -1,9 +1,10 @@
-// Measure: the tensions and the cost of a given timetable.
+// Measure: the tensions, the turns and the cost of a given timetable.
 ghost use Rattle.network.specs.Network.{netOf};
+ghost use Rattle.network.specs.Rows.{arcRowsOf};
 ghost use Rattle.timetable.specs.Measure.{Measured};
 use network::Answer;
 
-// The tensions and the cost of this timetable, whether or not its arcs are met.
+// The tensions, the turns and the cost of this timetable, whether or not its arcs are met.
 pub fn measure(
     periods: &[u32],
     tail: &[u32],
@@ -13,8 +14,9 @@ pub fn measure(
     weight: &[u32],
     times: &[u32],
     tensions: &mut [i32],
+    turns: &mut [i32],
 ) -> Answer
-    ensures { λ r. ⌜ Measured (netOf (periods .entry) (tail .entry) (head .entry) (lower .entry) (upper .entry) (weight .entry)) (now (times .entry)) (now (tensions .entry)) (now (tensions .exit)) r ⌝ }
+    ensures { λ r. ⌜ Measured (netOf (periods .entry) (tail .entry) (head .entry) (lower .entry) (upper .entry) (weight .entry)) (now (times .entry)) (arcRowsOf (tensions .entry) (turns .entry)) (arcRowsOf (tensions .exit) (turns .exit)) r ⌝ }
 {
     let found = network::table::refusal(periods, tail, head, lower, upper, weight, tail.len());
     if found.code != 0 {
@@ -23,14 +25,14 @@ pub fn measure(
     if times.len() != periods.len() {
         return network::refused(9, 0);
     }
-    if tensions.len() < tail.len() {
+    if network::rule::short(tensions.len(), turns.len(), tail.len()) {
         return network::refused(9, 0);
     }
     let event = network::rule::first_late(periods, times);
     if event < periods.len() {
         return network::refused(14, event);
     }
-    let cost = network::rule::note_tensions(
+    let cost = network::rule::note_arcs(
         periods,
         tail,
         head,
@@ -39,6 +41,7 @@ pub fn measure(
         weight,
         times,
         tensions,
+        turns,
     );
     Answer {
         code: 0,

@@ -1,5 +1,6 @@
 // Solve: the smallest feasible timetable of a network.
 ghost use Rattle.network.specs.Network.{netOf};
+ghost use Rattle.network.specs.Rows.{arcRowsOf};
 ghost use Rattle.timetable.specs.Solve.{Solved, Found, Lent};
 use network::Answer;
 
@@ -14,15 +15,16 @@ fn settle(
     row: &mut [u32],
     times: &mut [u32],
     tensions: &mut [i32],
+    turns: &mut [i32],
 ) -> Answer
-    requires { ⌜ Lent (netOf periods tail head lower upper weight) (now row) (now times) (now tensions) ⌝ }
-    ensures { λ r. ⌜ Found (netOf (periods .entry) (tail .entry) (head .entry) (lower .entry) (upper .entry) (weight .entry)) (now (times .entry)) (now (tensions .entry)) (now (times .exit)) (now (tensions .exit)) r ⌝ }
+    requires { ⌜ Lent (netOf periods tail head lower upper weight) (now row) (now times) (arcRowsOf tensions turns) ⌝ }
+    ensures { λ r. ⌜ Found (netOf (periods .entry) (tail .entry) (head .entry) (lower .entry) (upper .entry) (weight .entry)) (now (times .entry)) (arcRowsOf (tensions .entry) (turns .entry)) (now (times .exit)) (arcRowsOf (tensions .exit) (turns .exit)) r ⌝ }
 {
     if !search::smallest(periods, tail, head, lower, upper, weight, row) {
         return network::refused(10, 0);
     }
     network::rule::note_times(&row[..], times);
-    let cost = network::rule::note_tensions(
+    let cost = network::rule::note_arcs(
         periods,
         tail,
         head,
@@ -31,6 +33,7 @@ fn settle(
         weight,
         &row[..],
         tensions,
+        turns,
     );
     Answer {
         code: 0,
@@ -39,7 +42,7 @@ fn settle(
     }
 }
 
-// The smallest feasible timetable with its tensions and cost, or code 10 where there is none.
+// The smallest feasible timetable with its tensions, turns and cost, or code 10 where there is none.
 pub fn solve(
     periods: &[u32],
     tail: &[u32],
@@ -49,8 +52,9 @@ pub fn solve(
     weight: &[u32],
     times: &mut [u32],
     tensions: &mut [i32],
+    turns: &mut [i32],
 ) -> Answer
-    ensures { λ r. ⌜ Solved (netOf (periods .entry) (tail .entry) (head .entry) (lower .entry) (upper .entry) (weight .entry)) (now (times .entry)) (now (tensions .entry)) (now (times .exit)) (now (tensions .exit)) r ⌝ }
+    ensures { λ r. ⌜ Solved (netOf (periods .entry) (tail .entry) (head .entry) (lower .entry) (upper .entry) (weight .entry)) (now (times .entry)) (arcRowsOf (tensions .entry) (turns .entry)) (now (times .exit)) (arcRowsOf (tensions .exit) (turns .exit)) r ⌝ }
 {
     let found = network::table::refusal(periods, tail, head, lower, upper, weight, tail.len());
     if found.code != 0 {
@@ -59,7 +63,7 @@ pub fn solve(
     if times.len() < periods.len() {
         return network::refused(9, 0);
     }
-    if tensions.len() < tail.len() {
+    if network::rule::short(tensions.len(), turns.len(), tail.len()) {
         return network::refused(9, 0);
     }
     let n = periods.len();
@@ -74,5 +78,6 @@ pub fn solve(
         &mut row[..n],
         times,
         tensions,
+        turns,
     )
 }

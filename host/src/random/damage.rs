@@ -133,6 +133,12 @@ pub const SHORT_TENSIONS: Damage = (9, |random, case| {
     case.tensions.truncate(random.below(m));
 });
 
+/// For a call that writes the turns: fewer entries than arcs.
+pub const SHORT_TURNS: Damage = (9, |random, case| {
+    let m = case.rows.tail.len();
+    case.turns.truncate(random.below(m));
+});
+
 /// For a call that reads the times.
 pub const LATE_TIME: Damage = (14, |random, case| {
     let event = random.below(case.times.len());
@@ -172,7 +178,8 @@ pub const INFEASIBLE: Damage = (10, |random, case| {
             weight: 1,
         };
         case.rows.insert(place, arc);
-        case.tensions.push(0);
+        case.tensions.push(i32::MAX);
+        case.turns.push(i32::MAX);
     }
 });
 

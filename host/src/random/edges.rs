@@ -109,6 +109,7 @@ fn add_lengths(list: &mut Vec<Edit>) {
         stretch(list, |case| &mut case.rows.weight, step);
         stretch(list, |case| &mut case.times, step);
         stretch(list, |case| &mut case.tensions, step);
+        stretch(list, |case| &mut case.turns, step);
     }
     for n in [0, 1, 64, 65] {
         list.push(Box::new(move |case| resize_events(case, n)));
@@ -130,6 +131,7 @@ fn resize_arcs(case: &mut Case, m: usize) {
     resize(&mut case.rows.upper, m);
     resize(&mut case.rows.weight, m);
     resize(&mut case.tensions, m);
+    resize(&mut case.turns, m);
 }
 
 /// Further entries are copies of the last.

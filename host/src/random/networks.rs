@@ -89,7 +89,8 @@ pub(super) fn build(random: &mut Random, periods: Vec<u32>, m: usize, met: bool)
         rows.push(arc);
     }
     Case {
-        tensions: kept_tensions(random, m),
+        tensions: kept(random, m, 1_000_000_000),
+        turns: kept(random, m, -1_000_000_000),
         rows,
         times,
     }
@@ -157,8 +158,9 @@ fn weight(random: &mut Random) -> u32 {
     }
 }
 
-/// A tension row to be written, up to two entries too long, filled with what no call ever writes.
-fn kept_tensions(random: &mut Random, m: usize) -> Vec<i32> {
+/// A row to be written for the arcs, up to two entries too long, filled with numbers from `first`
+/// on, which no call ever writes.
+fn kept(random: &mut Random, m: usize, first: i32) -> Vec<i32> {
     let length = m + random.below(3);
-    (0..length as i32).map(|k| 1_000_000_000 + k).collect()
+    (first..).take(length).collect()
 }

@@ -35,8 +35,7 @@ pub fn damaged_print(random: &mut Random) -> (u32, TextCase) {
     let lent = printable(random);
     let mut case = Case {
         rows: lent.rows,
-        times: Vec::new(),
-        tensions: Vec::new(),
+        ..Case::default()
     };
     damage::apply(random, &mut case, damages);
     let rows = case.rows;

@@ -1,4 +1,4 @@
-//! The public rule: arc period, remainder, slack, tension, met, working upper bound, cost.
+//! The public rule: arc period, remainder, slack, tension, turn, met, working upper bound, cost.
 
 use crate::network::Network;
 
@@ -23,15 +23,40 @@ pub fn arc_period(network: &Network, arc: usize) -> u32 {
     common_divisor(network.periods[tail], network.periods[head])
 }
 
-pub fn slack(network: &Network, arc: usize, times: &[u32]) -> i64 {
+/// Of the times at the arc's two ends.
+fn head_less_tail(network: &Network, arc: usize, times: &[u32]) -> i64 {
     let tail = i64::from(times[network.tail[arc] as usize]);
     let head = i64::from(times[network.head[arc] as usize]);
-    let lower = i64::from(network.lower[arc]);
-    remainder(head - tail - lower, arc_period(network, arc))
+    head - tail
+}
+
+pub fn slack(network: &Network, arc: usize, times: &[u32]) -> i64 {
+    let number = head_less_tail(network, arc, times) - i64::from(network.lower[arc]);
+    remainder(number, arc_period(network, arc))
 }
 
 pub fn tension(network: &Network, arc: usize, times: &[u32]) -> i64 {
     i64::from(network.lower[arc]) + slack(network, arc, times)
+}
+
+/// How many times g is added to head time less tail time, or below 0 taken from it, until that is
+/// the tension. The turns are counted, one after the other.
+pub fn turn(network: &Network, arc: usize, times: &[u32]) -> i64 {
+    let tension = tension(network, arc, times);
+    let g = i64::from(arc_period(network, arc));
+    let mut reached = head_less_tail(network, arc, times);
+    let mut turn = 0;
+    while reached < tension {
+        reached += g;
+        turn += 1;
+    }
+    while reached > tension {
+        reached -= g;
+        turn -= 1;
+    }
+    assert_eq!(reached, tension, "whole turns of arc {arc}: {network:?}");
+    assert!((-14_400..=14_400).contains(&turn), "{turn}: {network:?}");
+    turn
 }
 
 pub fn met(network: &Network, arc: usize, times: &[u32]) -> bool {

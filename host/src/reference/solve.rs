@@ -1,17 +1,27 @@
 //! solve: the smallest feasible timetable, by trying timetables in rising order.
 
 use super::judge::{refusal, whole};
-use super::measure::write_tensions;
+use super::measure::write_arcs;
 use super::rule::{cost, met};
 use crate::network::{Answer, Network};
 
-pub fn solve(network: &Network, times: &mut [u32], tensions: &mut [i32]) -> Answer {
-    solve_with(smallest, network, times, tensions)
+pub fn solve(
+    network: &Network,
+    times: &mut [u32],
+    tensions: &mut [i32],
+    turns: &mut [i32],
+) -> Answer {
+    solve_with(smallest, network, times, tensions, turns)
 }
 
 /// The same for networks with too many timetables to try them all.
-pub fn solve_by_skipping(network: &Network, times: &mut [u32], tensions: &mut [i32]) -> Answer {
-    solve_with(smallest_by_skipping, network, times, tensions)
+pub fn solve_by_skipping(
+    network: &Network,
+    times: &mut [u32],
+    tensions: &mut [i32],
+    turns: &mut [i32],
+) -> Answer {
+    solve_with(smallest_by_skipping, network, times, tensions, turns)
 }
 
 type Search = fn(&Network) -> Option<Vec<u32>>;
@@ -21,9 +31,11 @@ fn solve_with(
     network: &Network,
     times: &mut [u32],
     tensions: &mut [i32],
+    turns: &mut [i32],
 ) -> Answer {
     let (n, m) = (network.periods.len(), network.tail.len());
-    let refused = refusal(network).or_else(|| whole(9, times.len() < n || tensions.len() < m));
+    let short = tensions.len() < m || turns.len() < m;
+    let refused = refusal(network).or_else(|| whole(9, times.len() < n || short));
     if let Some(answer) = refused {
         return answer;
     }
@@ -31,7 +43,7 @@ fn solve_with(
         return Answer::refusal(10, 0);
     };
     times[..n].copy_from_slice(&found);
-    write_tensions(network, &found, tensions);
+    write_arcs(network, &found, tensions, turns);
     Answer::success(cost(network, &found))
 }
 

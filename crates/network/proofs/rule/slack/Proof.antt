@@ -1,8 +1,7 @@
 -- `network::rule::slack` meets its contract: the slack of the times at the arc's ends. Assumes nothing.
 use mathlib.Core.Path.{_∙_}
 use native.Mathlib.Omega.{arith}
-use Rattle.network.specs.PublicRule.{slackBy, slack}
-use Rattle.network.proofs.Arcs.{arc-of, kept, asks-period, tail-end, head-end, in-lowers, period-of}
+use Rattle.network.proofs.Arcs.{arc-of, kept, asks-period, tail-end, head-end, in-lowers, period-of, slack-is}
 use Rattle.network.proofs.rule.slack.Statement.{statement}
 use Rattle.network.proofs.rule.slack.Tie as tie
 
@@ -27,14 +26,18 @@ slack-by-requires c κs =
     omega (arith, g .arc-period .ensures, period-of (arc-of (start (g .before) .pre)) .some)
 
 returns : tie.Need-returns
-unfolding slack
 returns c =
     let l = c .before in
     let to = l .before in
     let from = to .before in
-    let g = from .before in
-    c .slack-by .ensures
-    ∙ (λ j. slackBy (g .arc-period .ensures j) ((kept (l .bound .ok) ∙ l .bound .ensures) j) (from .time-at .ensures j) (to .time-at2 .ensures j))
+    slack-is
+    (record {
+      period-is = from .before .arc-period .ensures;
+      lower-is = kept (l .bound .ok) ∙ l .bound .ensures;
+      from-is = from .time-at .ensures;
+      to-is = to .time-at2 .ensures;
+    })
+    (c .slack-by .ensures)
 
 pub slack-spec : {M : Type 1} → statement M
 slack-spec =

@@ -23,8 +23,12 @@ returns c =
 note-times-requires : tie.Need-note-times-requires
 note-times-requires c κs = search needs
 
-note-tensions-requires : tie.Need-note-tensions-requires
-note-tensions-requires c κs = search needs
+note-arcs-requires : tie.Need-note-arcs-requires
+note-arcs-requires c κs =
+    let i = c .before .before .before .before .before .before .before .before in
+    let s = i .before .before .before in
+    let p = s .before .before .before .before .before .before .before .before .pre in
+    record { well = p .well; timetable = one-found (s .smallest .ensures) (i .if1 .left) .feasible .timetable; room = p .rows-room }
 
 same-length-2 : tie.Need-same-length-2
 same-length-2 c = search needs
@@ -35,13 +39,16 @@ same-length-3 c = search needs
 same-length-4 : tie.Need-same-length-4
 same-length-4 c = search needs
 
+same-length-5 : tie.Need-same-length-5
+same-length-5 c = search needs
+
 returns-2 : tie.Need-returns-2
 returns-2 c =
-    let n = c .before in
-    let t = n .before .before .before .before .before in
+    let n = c .before .before in
+    let t = n .before .before .before .before .before .before in
     let i = t .before .before .before in
     let s = i .before .before .before in
-    found-smallest (one-found (s .smallest .ensures) (i .if1 .left)) (t .note-times .ensures) (n .note-tensions .ensures)
+    found-smallest (one-found (s .smallest .ensures) (i .if1 .left)) (t .note-times .ensures) (n .note-arcs .ensures)
 
 pub settle-spec : {M : Type 1} → statement M
 settle-spec =
@@ -52,8 +59,9 @@ settle-spec =
     same-length
     returns
     note-times-requires
-    note-tensions-requires
+    note-arcs-requires
     same-length-2
     same-length-3
     same-length-4
+    same-length-5
     returns-2)
