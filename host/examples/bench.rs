@@ -3,12 +3,12 @@
 
 use rubblewaltz_host::compare::{Case, TextCase, TextVersion, Version};
 use rubblewaltz_host::files::{self, Known};
+use rubblewaltz_host::timing::{announce, best, ratio};
 use rubblewaltz_host::{
     baseline, check, measure, print, read, rebuild, reference, solve, Answer, Filled,
 };
 use std::fmt::Debug;
 use std::hint::black_box;
-use std::time::{Duration, Instant};
 
 /// A call's name, the archive's version and the baseline's.
 const CALLS: [(&str, Version, Version); 4] = [
@@ -43,16 +43,8 @@ const TEXT_CALLS: [(&str, TextVersion, TextVersion); 2] = [
     ),
 ];
 
-/// The best of so many runs counts; a run has so many calls that it takes this long at least.
-const RUNS: usize = 7;
-const LEAST_RUN: Duration = Duration::from_millis(2);
-
 fn main() {
-    if cfg!(bridged) {
-        println!(
-            "The archive is for another processor: its times are an emulator's, with no ratio."
-        );
-    }
+    announce();
     println!("network           call     code    archive us  safe Rust us   ratio");
     for known in files::answers() {
         let case = prepared(&known);
@@ -92,14 +84,6 @@ fn report<T>(
     );
 }
 
-/// An emulated call against a native one has none that means anything.
-fn ratio(ours: f64, theirs: f64) -> String {
-    if cfg!(bridged) {
-        return "-".into();
-    }
-    format!("{:.2}", ours / theirs)
-}
-
 /// The network with its smallest timetable, or all times 0 where none is feasible, and with the
 /// tensions and turns of that: what each call reads, and what it writes.
 fn prepared(known: &Known) -> Case {
@@ -124,36 +108,11 @@ fn prepared_text(name: &str, call: &str) -> TextCase {
 }
 
 fn run(case: &mut Case, version: Version) -> Answer {
-    let case = black_box(case);
-    version(
-        &case.rows.network(),
-        &mut case.times,
-        &mut case.tensions,
-        &mut case.turns,
-    )
+    black_box(case).call(version)
 }
 
 fn run_text(case: &mut TextCase, version: TextVersion) -> Filled {
     let case = black_box(case);
     let network = case.rows.network_mut();
     version(network, &mut case.events, &mut case.arcs)
-}
-
-/// Microseconds for one call.
-fn best<T>(mut call: impl FnMut() -> T) -> f64 {
-    let mut calls = 1;
-    while timed(&mut call, calls) < LEAST_RUN {
-        calls *= 2;
-    }
-    (0..RUNS)
-        .map(|_| timed(&mut call, calls).as_secs_f64() * 1e6 / f64::from(calls))
-        .fold(f64::INFINITY, f64::min)
-}
-
-fn timed<T>(call: &mut impl FnMut() -> T, calls: u32) -> Duration {
-    let start = Instant::now();
-    for _ in 0..calls {
-        black_box(call());
-    }
-    start.elapsed()
 }

@@ -1,10 +1,12 @@
 //! The archive's way of working in safe Rust, for the benchmark to measure it against.
 
+mod search;
 mod text;
 
 pub use text::{print, read};
 
 use crate::network::{Answer, Network};
+use search::smallest;
 use std::cmp::Ordering;
 
 fn common_divisor(mut a: u32, mut b: u32) -> u32 {
@@ -160,71 +162,6 @@ pub fn solve(
     }
     times[..n].copy_from_slice(&found[..n]);
     write_arcs(network, &found[..n], tensions, turns)
-}
-
-/// What the search asks of the arcs again and again, worked out once: less the lower bound by the
-/// arc's period, the slack up to which the arc is met, and its period.
-struct Reduced<'a> {
-    network: &'a Network<'a>,
-    offsets: [u32; 256],
-    widths: [u32; 256],
-    gaps: [u32; 256],
-}
-
-fn smallest(network: &Network, times: &mut [u32]) -> bool {
-    let mut reduced = Reduced {
-        network,
-        offsets: [0; 256],
-        widths: [0; 256],
-        gaps: [0; 256],
-    };
-    for arc in 0..network.tail.len() {
-        let gap = arc_period(network, arc);
-        reduced.gaps[arc] = gap;
-        reduced.offsets[arc] = (-network.lower[arc]).rem_euclid(gap as i32) as u32;
-        reduced.widths[arc] = (working_upper(network, arc, gap) - network.lower[arc]) as u32;
-    }
-    place(&reduced, times, 0)
-}
-
-/// Places the event and all later ones; false if that can't be.
-fn place(reduced: &Reduced, times: &mut [u32], event: usize) -> bool {
-    if event == times.len() {
-        return true;
-    }
-    let mut from = 0;
-    while next_time(reduced, times, event, from) {
-        if place(reduced, times, event + 1) {
-            return true;
-        }
-        from = times[event] + 1;
-    }
-    false
-}
-
-/// Sets the event to its first time from `from` on that fits; false if there is none.
-fn next_time(reduced: &Reduced, times: &mut [u32], event: usize, from: u32) -> bool {
-    for time in from..reduced.network.periods[event] {
-        times[event] = time;
-        if fits(reduced, times, event) {
-            return true;
-        }
-    }
-    false
-}
-
-/// Does the event's time meet every arc between it and an earlier event?
-fn fits(reduced: &Reduced, times: &[u32], event: usize) -> bool {
-    (0..reduced.network.tail.len()).all(|arc| {
-        let tail = reduced.network.tail[arc] as usize;
-        let head = reduced.network.head[arc] as usize;
-        if tail > event || head > event || (tail < event && head < event) {
-            return true;
-        }
-        let gap = reduced.gaps[arc];
-        let slack = (times[head] + (3600 * gap - times[tail]) + reduced.offsets[arc]) % gap;
-        slack <= reduced.widths[arc]
-    })
 }
 
 pub fn rebuild(network: &Network, tensions: &[i32], times: &mut [u32]) -> Answer {

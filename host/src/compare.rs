@@ -27,6 +27,16 @@ impl Case {
             rows,
         }
     }
+
+    /// Makes the call on the case's own rows.
+    pub fn call(&mut self, version: Version) -> Answer {
+        version(
+            &self.rows.network(),
+            &mut self.times,
+            &mut self.tensions,
+            &mut self.turns,
+        )
+    }
 }
 
 /// Takes the network, and the rows of times, tensions and turns in this order.

@@ -26,6 +26,7 @@
 pub mod baseline;
 #[cfg(bridged)]
 mod bridge;
+pub mod c_program;
 pub mod compare;
 pub mod files;
 mod network;
@@ -35,6 +36,7 @@ mod raw;
 pub mod reference;
 pub mod round_trip;
 pub mod tally;
+pub mod timing;
 pub mod trials;
 
 pub use network::{Answer, Arc, Filled, Network, NetworkMut, Rows};

@@ -6,7 +6,7 @@ use rubblewaltz_host::round_trip::{printed, read_rows};
 use rubblewaltz_host::{baseline, reference, solve, Answer};
 
 /// Those on which a plain search is soon through.
-const FINISHED: [&str; 15] = [
+const FINISHED: [&str; 17] = [
     "rb60-8-line-1",
     "rmix-8-line-1",
     "rp60-8-line-1",
@@ -22,6 +22,8 @@ const FINISHED: [&str; 15] = [
     "rp60-32-line-1",
     "rq60-32-line-1",
     "rp60-64-line-1",
+    "rb60-64-line-1",
+    "rf60-64-line-1",
 ];
 
 /// How many networks the folder holds.
@@ -49,12 +51,7 @@ fn assert_solves(name: &str, solve: Version) {
     assert_eq!(names, FINISHED);
     for known in known {
         let mut case = unsolved(&known.name);
-        let answer = solve(
-            &case.rows.network(),
-            &mut case.times,
-            &mut case.tensions,
-            &mut case.turns,
-        );
+        let answer = case.call(solve);
         assert_eq!((answer, case), expected(&known), "{name}: {}", known.name);
     }
 }

@@ -1,132 +1,206 @@
 -- The network in unsigned numbers has the same feasible timetables. Assumes nothing.
 use mathlib.Core.Path.{_≡_, refl, sym, ap, _∙_, subst}
 use mathlib.Core.List.{List}
-use mathlib.Core.Bool.{Bool, true, false}
-use Prim.Native.Nat.{ℕ, _+_, _*_, _-_, _/_, _%_, _<_, _≤_}
-use native.Mathlib.Nat.{mod-lt, div-add-mod'}
+use mathlib.Core.Bool.{Bool, true, false, cond}
+use Prim.Native.Nat.{ℕ, _+_, _-_, _<_, _≤_}
+use native.Mathlib.Decide.{decLt}
 use native.Mathlib.Omega.{arith}
-use lib.IntN.{ℤ, pos, negℤ, natAbs, _-ℤ_}
-use lib.ListN.{length, set}
+use lib.IntN.{ℤ, pos, natAbs, _-ℤ_}
+use lib.ListN.{length}
 use lib.Dec.{leb}
-use borrow.Author.Tests.{lt-ltb, ltb-true}
+use borrow.Author.Tests.{lt-ltb, le-ltb, ltb-true, le-leb, lt-leb}
 use Rattle.numbers.specs.Remainder.{Cong}
-use Rattle.numbers.proofs.Integers.{zed, ofSub, up-neg, dn-neg}
-use Rattle.numbers.proofs.Congruence.{cong, cong-eq, cong-refl, cong-sym, cong-trans, cong-neg, cong-sub}
-use Rattle.numbers.proofs.Remainders.{remainder-only, same-remainder, remainder-below, remainder-cong}
+use Rattle.numbers.proofs.Integers.{up, dn, zed, ofSub, ofAbs, absℤ}
+use Rattle.numbers.proofs.Congruence.{cong, parts, cong-refl, cong-sym, cong-trans, cong-sub}
+use Rattle.numbers.proofs.Remainders.{below-same, remainder-below, remainder-cong}
 use Rattle.network.specs.Network.{Network, arcs, period, tail, head, lower}
 use Rattle.numbers.specs.Row.{at}
 use Rattle.network.specs.PublicRule.{arcPeriod, slackBy, slack, met, working, widthOf, allowed, Feasible}
-use Rattle.network.proofs.Arcs.{written-none, written-more, written-length, written-at}
+use Rattle.network.specs.Table.{WellFormed}
+use Rattle.network.proofs.Arcs.{ArcOf, period-of}
 use Rattle.network.proofs.Sound.{Sound, sound, arc-period}
-use Rattle.network.proofs.Width.{met-width}
+use Rattle.network.proofs.Width.{size, narrow, met-width}
 use Rattle.search.specs.Looked.{Looked}
 use Rattle.search.specs.Looked.Looked.{found, nothing}
-use Rattle.search.specs.Reduced.{Reduced, rows, slackAt, offsetOf, metIn, Fitting, Sized, RowsLent, RowsFilled}
-use Rattle.search.specs.Steps.{Near, Placed}
+use Rattle.search.specs.Reduced.{Reduced, reduced, past, metAt, metIn, Fitting, Barred, Sized, nearOf, lastOf, edgeOf, shiftOf, runOf, put, putArc, putArcs, BarsLent}
+use Rattle.search.specs.Threads.{ThreadAsks, Lent}
+use Rattle.search.specs.Steps.{Placed}
 use Rattle.search.proofs.Agreeing.{agree-none}
+use Rattle.search.proofs.Bars.{BarIs, bar-is, arcs-length}
 
--- ---- the slack without a negative number
+-- ---- a slack s up to w, and how far a time is past its run, p: of g times the run leaves w and one more
 
-pub unsigned : {gap offset from to : ℕ} → Near gap offset from to → (to + (3600 * gap - from) + offset) % gap ≡ slackAt gap offset from to
-unsigned {gap} {offset} {from} {to} n =
-    let x : ℕ = to + (3600 * gap - from) + offset in
-    let d : ℤ = pos to -ℤ pos from in
-    let o : ℤ = negℤ (pos offset) in
-    remainder-only (record {
-      below = mod-lt x (n .some);
-      cong =
-          cong 3600 (x / gap)
-          (omega (arith, n .some, n .from-most, div-add-mod' x gap, ofSub (pos to) (pos from), ofSub d o, up-neg (pos offset), dn-neg (pos offset)));
-    })
+-- where the time rises with the slack, the run begins w and one more after the slack is 0
+later : {g w s p : ℕ} → w < g → s < g → p < g → Cong g (pos (p + (w + 1))) (pos s) → leb ((g - 1) - w) p ≡ leb s w
+later {g} {w} {s} {p} hw hs hp c = go (decLt (p + (w + 1)) g)
+  where
+    go : Dec (p + (w + 1) < g) → leb ((g - 1) - w) p ≡ leb s w
+    go (yes l) =
+        let e : p + (w + 1) ≡ s = below-same l hs c in
+        lt-leb ((g - 1) - w) p (omega arith) ∙ sym (lt-leb s w (omega arith))
+    go (no n) =
+        let e : (p + (w + 1)) - g ≡ s = below-same (omega (arith, n)) hs (cong-trans (cong 1 0 (omega (arith, n))) c) in
+        le-leb ((g - 1) - w) p (omega (arith, n)) ∙ sym (le-leb s w (omega (arith, n)))
 
--- ---- the rows, arc by arc
+-- where it falls as the slack rises, it ends where the slack is 0
+earlier : {g w s p : ℕ} → w < g → s < g → p < g → Cong g (pos (p + (s + 1))) (pos 0) → leb ((g - 1) - w) p ≡ leb s w
+earlier {g} {w} {s} {p} hw hs hp c = go (decLt s (w + 1))
+  where
+    all : p + (s + 1) ≡ g
+    all = whole (decLt (p + (s + 1)) g)
+      where
+        whole : Dec (p + (s + 1) < g) → p + (s + 1) ≡ g
+        whole (yes l) = absurd (omega (arith, below-same l (omega arith) c))
+        whole (no n) =
+            let e : (p + (s + 1)) - g ≡ 0 = below-same (omega (arith, n)) (omega arith) (cong-trans (cong 1 0 (omega (arith, n))) c) in
+            omega (arith, n)
 
-pub filled-none : (N : Network) (o w g : List ℕ) → RowsFilled N 0 o w g o w g
-filled-none N o w g =
-    record { offsets-are = written-none (offsetOf N) o; widths-are = written-none (widthOf N) w; gaps-are = written-none (arcPeriod N) g }
+    go : Dec (s < w + 1) → leb ((g - 1) - w) p ≡ leb s w
+    go (yes l) = le-leb ((g - 1) - w) p (omega (arith, all)) ∙ sym (le-leb s w (omega arith))
+    go (no n) = lt-leb ((g - 1) - w) p (omega (arith, n, all)) ∙ sym (lt-leb s w (omega (arith, n)))
 
-module _ {N : Network} {k : ℕ} {o w g o′ w′ g′ : List ℕ} (f : RowsFilled N k o w g o′ w′ g′) where
-  pub offsets-kept : length o′ ≡ length o
-  offsets-kept = ap length (f .offsets-are) ∙ written-length (offsetOf N) k o
+-- ---- in the arc's own numbers
 
-  pub widths-kept : length w′ ≡ length w
-  widths-kept = ap length (f .widths-are) ∙ written-length (widthOf N) k w
+-- a remainder stands for what it was taken of
+of-rest : (g : ℕ) (z : ℤ) → 0 < g → Cong g (pos (slackBy g z 0 1)) ((pos 1 -ℤ pos 0) -ℤ z)
+of-rest g z h = cong-sym (remainder-cong ((pos 1 -ℤ pos 0) -ℤ z) g h)
 
-  pub gaps-kept : length g′ ≡ length g
-  gaps-kept = ap length (f .gaps-are) ∙ written-length (arcPeriod N) k g
+past-cong : (g : ℕ) (edge : ℤ) (from to : ℕ) → 0 < g → Cong g (pos (past g (slackBy g edge 0 1) from to)) ((pos to -ℤ pos from) -ℤ ((pos 1 -ℤ pos 0) -ℤ edge))
+past-cong g edge from to h =
+    cong-trans (cong-sym (remainder-cong ((pos to -ℤ pos from) -ℤ pos (slackBy g edge 0 1)) g h))
+    (cong-sub (cong-refl g (pos to -ℤ pos from)) (of-rest g edge h))
 
-  -- one arc more: its period p, its bounds as they were read
-  pub filled-more : {x y p : ℕ} {low high : ℤ} → p ≡ arcPeriod N k → low ≡ lower N k → high ≡ working N k
-      → x ≡ slackBy p low 0 0 → y ≡ natAbs (high -ℤ low)
-      → RowsFilled N (k + 1) o w g (set o′ k x) (set w′ k y) (set g′ k p)
+-- the working upper bound is lower and its width, which is below the arc's period
+module _ {N : Network} {a : ℕ} (s : Sound N) (h : a < arcs N) where
+  width-is : up (working N a) + dn (lower N a) ≡ up (lower N a) + dn (working N a) + widthOf N a
   unfolding widthOf
-  filled-more q l h ex ey = record {
-    offsets-are = (λ j. set (f .offsets-are j) k ((ex ∙ (λ i. slackBy (q i) (l i) 0 0)) j)) ∙ written-more (offsetOf N) k o;
-    widths-are = (λ j. set (f .widths-are j) k ((ey ∙ (λ i. natAbs (h i -ℤ l i))) j)) ∙ written-more (widthOf N) k w;
-    gaps-are = (λ j. set (f .gaps-are j) k (q j)) ∙ written-more (arcPeriod N) k g;
-  }
+  width-is =
+      let d = working N a -ℤ lower N a in
+      omega (arith, zed, ofSub (working N a) (lower N a), size d (omega (arith, zed, narrow N a s h .ordered, ofSub (working N a) (lower N a))))
 
-  pub filled-all : {m : ℕ} → k ≡ m → RowsFilled N m o w g o′ w′ g′
-  filled-all e = subst (λ (n : ℕ). RowsFilled N n o w g o′ w′ g′) e f
+  width-below : widthOf N a < arcPeriod N a
+  width-below = omega (arith, zed, width-is, narrow N a s h .below, ofSub (working N a) (lower N a))
 
--- ---- the same slack, the same arcs met, the same feasible timetables
+  some : 0 < arcPeriod N a
+  some = arc-period N a s h .some
 
-offset-cong : (g : ℕ) (low : ℤ) → 0 < g → Cong g (negℤ (pos (slackBy g low 0 0))) low
-offset-cong g low h =
-    let z : ℤ = pos 0 -ℤ pos 0 in
-    cong-trans (cong-sym (cong-neg (remainder-cong (z -ℤ low) g h)))
-    (cong-eq g (omega (arith, zed, ofSub (pos 0) (pos 0), ofSub z low, up-neg (z -ℤ low), dn-neg (z -ℤ low))))
+  module _ (from to : ℕ) where
+    rising : leb (runOf N a) (past (arcPeriod N a) (slackBy (arcPeriod N a) (pos 0 -ℤ working N a) 0 1) from to) ≡ leb (slackBy (arcPeriod N a) (lower N a) from to) (widthOf N a)
+    rising =
+        let g = arcPeriod N a in
+        let u = working N a in
+        let l = lower N a in
+        let d = pos to -ℤ pos from in
+        let v = pos 0 -ℤ u in
+        let e = (pos 1 -ℤ pos 0) -ℤ v in
+        let p = past-cong g v from to some in
+        let q = remainder-cong (d -ℤ l) g some in
+        later width-below (remainder-below (d -ℤ l) g some) (remainder-below (d -ℤ pos (slackBy g v 0 1)) g some)
+        (cong (dn (p .times) + dn (q .times)) (up (p .times) + up (q .times))
+        (omega (arith, parts p, parts q, width-is, ofSub (pos to) (pos from), ofSub d l, ofSub d e, ofSub (pos 1) (pos 0), ofSub (pos 1 -ℤ pos 0) v, ofSub (pos 0) u)))
 
-slack-same : (g : ℕ) (low : ℤ) (from to : ℕ) → 0 < g → slackAt g (slackBy g low 0 0) from to ≡ slackBy g low from to
-slack-same g low from to h = same-remainder h (cong-sub (cong-refl g (pos to -ℤ pos from)) (offset-cong g low h))
+    falling : leb (runOf N a) (past (arcPeriod N a) (slackBy (arcPeriod N a) (lower N a) 0 1) to from) ≡ leb (slackBy (arcPeriod N a) (lower N a) from to) (widthOf N a)
+    falling =
+        let g = arcPeriod N a in
+        let l = lower N a in
+        let d = pos to -ℤ pos from in
+        let b = pos from -ℤ pos to in
+        let e = (pos 1 -ℤ pos 0) -ℤ l in
+        let p = past-cong g l to from some in
+        let q = remainder-cong (d -ℤ l) g some in
+        earlier width-below (remainder-below (d -ℤ l) g some) (remainder-below (b -ℤ pos (slackBy g l 0 1)) g some)
+        (cong (dn (p .times) + up (q .times)) (up (p .times) + dn (q .times))
+        (omega (arith, parts p, parts q, ofSub (pos to) (pos from), ofSub (pos from) (pos to), ofSub d l, ofSub b e, ofSub (pos 1) (pos 0), ofSub (pos 1 -ℤ pos 0) l)))
 
-module _ {N : Network} {o w g o′ w′ g′ : List ℕ} (lent : RowsLent N o w g) (f : RowsFilled N (arcs N) o w g o′ w′ g′) where
+  met-bar : (t : List ℕ) → leb (runOf N a) (past (arcPeriod N a) (shiftOf N a) (at t (nearOf N a)) (at t (lastOf N a))) ≡ met N t a
+  unfolding slack
+  met-bar t = go (decLt (tail N a) (head N a)) ∙ sym (met-width N t a s h)
+    where
+      go : Dec (tail N a < head N a)
+          → leb (runOf N a) (past (arcPeriod N a) (shiftOf N a) (at t (nearOf N a)) (at t (lastOf N a))) ≡ leb (slackBy (arcPeriod N a) (lower N a) (at t (tail N a)) (at t (head N a))) (widthOf N a)
+      go (yes l) =
+          let n : nearOf N a ≡ tail N a = omega arith in
+          let m : lastOf N a ≡ head N a = omega arith in
+          rw (n, m, lt-ltb (tail N a) (head N a) l) (rising (at t (tail N a)) (at t (head N a)))
+      go (no f) =
+          let n : nearOf N a ≡ head N a = omega (arith, f) in
+          let m : lastOf N a ≡ tail N a = omega (arith, f) in
+          rw (n, m, le-ltb (tail N a) (head N a) (omega (arith, f))) (falling (at t (tail N a)) (at t (head N a)))
+
+-- ---- the numbers of an arc, as calls handed them on
+
+module _ {N : Network} {a : ℕ} (c : ArcOf N a) where
+  found-width : {y : ℕ} {low high : ℤ} → low ≡ lower N a → high ≡ working N a → y ≡ natAbs (high -ℤ low) → y ≡ widthOf N a
+  unfolding widthOf
+  found-width l h e = e ∙ (λ j. natAbs (h j -ℤ l j))
+
+  pub width-fits : {g y : ℕ} {low high : ℤ} → g ≡ arcPeriod N a → low ≡ lower N a → high ≡ working N a → y ≡ natAbs (high -ℤ low) → y ≤ g - 1
+  width-fits q l h e = omega (arith, found-width l h e, width-below (sound N (c .well)) (c .arc))
+
+  pub working-small : {high : ℤ} → high ≡ working N a → natAbs high ≤ 10800
+  working-small h =
+      let s = sound N (c .well) in
+      let l = lower N a in
+      rw h
+      (absℤ (working N a) (omega (arith, width-is s (c .arc), width-below s (c .arc), period-of c .most, ofAbs l, s .lower-small a (c .arc))))
+
+  edge-forward : tail N a < head N a → pos 0 -ℤ working N a ≡ edgeOf N a
+  edge-forward h = ap (λ (b : Bool). cond b (pos 0 -ℤ working N a) (lower N a)) (sym (lt-ltb (tail N a) (head N a) h))
+
+  edge-backward : head N a ≤ tail N a → lower N a ≡ edgeOf N a
+  edge-backward h = ap (λ (b : Bool). cond b (pos 0 -ℤ working N a) (lower N a)) (sym (le-ltb (tail N a) (head N a) h))
+
+  put-is : (bars : List ℕ) {near last s g y : ℕ} {low high edge : ℤ} → near ≡ nearOf N a → last ≡ lastOf N a → g ≡ arcPeriod N a
+      → low ≡ lower N a → high ≡ working N a → y ≡ natAbs (high -ℤ low) → edge ≡ edgeOf N a → s ≡ slackBy g edge 0 1
+      → put bars a near last s ((g - 1) - y) g ≡ putArc N bars a
+  unfolding putArc
+  put-is bars n m q l h e d f =
+      let w = found-width l h e in
+      let b = f ∙ (λ i. slackBy (q i) (d i) 0 1) in
+      λ j. put bars a (n j) (m j) (b j) ((q j - 1) - w j) (q j)
+
+  module _ (bars : List ℕ) {s g y : ℕ} {low high edge : ℤ} (q : g ≡ arcPeriod N a) (l : low ≡ lower N a) (h : high ≡ working N a)
+      (e : y ≡ natAbs (high -ℤ low)) (f : s ≡ slackBy g edge 0 1) where
+    pub put-forward : tail N a < head N a → edge ≡ pos 0 -ℤ high → put bars a (tail N a) (head N a) s ((g - 1) - y) g ≡ putArc N bars a
+    put-forward o d = put-is bars (omega arith) (omega arith) q l h e (d ∙ ap (λ (z : ℤ). pos 0 -ℤ z) h ∙ edge-forward o) f
+
+    pub put-backward : (tail N a < head N a → ⊥) → edge ≡ low → put bars a (head N a) (tail N a) s ((g - 1) - y) g ≡ putArc N bars a
+    put-backward o d = put-is bars (omega (arith, o)) (omega (arith, o)) q l h e (d ∙ l ∙ edge-backward (omega (arith, o))) f
+
+-- ---- the same arcs met, the same feasible timetables
+
+module _ {N : Network} {bars : List ℕ} (lent : BarsLent N bars) where
   abbrev R : Reduced
-  R = rows (N .periods) (N .tails) (N .heads) o′ w′ g′
+  R = reduced (N .periods) (putArcs N bars (arcs N)) (arcs N)
 
   has : Sound N
   has = sound N (lent .well)
 
-  offset-at : (a : ℕ) → a < arcs N → at o′ a ≡ offsetOf N a
-  offset-at a h = ap (λ (l : List ℕ). at l a) (f .offsets-are) ∙ written-at 0 (offsetOf N) (arcs N) o a h (omega (arith, lent .offsets-long))
+  bar : (a : ℕ) → a < arcs N → BarIs N (R .bars) a
+  bar a h = bar-is N bars (arcs N) a h (omega (arith, lent .long))
 
-  width-at : (a : ℕ) → a < arcs N → at w′ a ≡ widthOf N a
-  width-at a h = ap (λ (l : List ℕ). at l a) (f .widths-are) ∙ written-at 0 (widthOf N) (arcs N) w a h (omega (arith, lent .widths-long))
-
-  gap-at : (a : ℕ) → a < arcs N → at g′ a ≡ arcPeriod N a
-  gap-at a h = ap (λ (l : List ℕ). at l a) (f .gaps-are) ∙ written-at 0 (arcPeriod N) (arcs N) g a h (omega (arith, lent .gaps-long))
+  barred : Barred (length (N .periods)) (arcs N) (R .bars)
+  barred = record {
+    few-arcs = has .even .few-arcs;
+    long = arcs-length N bars (arcs N) ∙ lent .long;
+    near-is = λ a h. omega (arith, bar a h .near-is, bar a h .last-is, has .no-loop a h);
+    last-is = λ a h. omega (arith, bar a h .last-is, has .ends a h .tail-in, has .ends a h .head-in);
+    shift-most = λ a h.
+        omega (arith, bar a h .shift-is, bar a h .gap-is, remainder-below ((pos 1 -ℤ pos 0) -ℤ edgeOf N a) (arcPeriod N a) (some has h));
+    run-most = λ a h. omega (arith, bar a h .run-is, bar a h .gap-is, some has h);
+    gap-most = λ a h. omega (arith, bar a h .gap-is, arc-period N a has h .most);
+  }
 
   pub sized : Sized R
-  sized = record {
-    few = has .event-count .most;
-    few-arcs = has .even .few-arcs;
-    heads-long = has .even .heads-long;
-    offsets-long = offsets-kept f ∙ lent .offsets-long;
-    widths-long = widths-kept f ∙ lent .widths-long;
-    gaps-long = gaps-kept f ∙ lent .gaps-long;
-    period-most = λ v h. has .periods v h .most;
-    tail-is = λ a h. has .ends a h .tail-in;
-    head-is = λ a h. has .ends a h .head-in;
-    gap-some = λ a h. omega (arith, gap-at a h, arc-period N a has h .some);
-    gap-most = λ a h. omega (arith, gap-at a h, arc-period N a has h .most);
-    offset-most = λ a h. small a h;
-  }
-    where
-      small : (a : ℕ) → a < arcs N → at o′ a ≤ 3600
-      small a h =
-          let p = arc-period N a has h in
-          omega (arith, offset-at a h, p .most, remainder-below ((pos 0 -ℤ pos 0) -ℤ lower N a) (arcPeriod N a) (p .some))
+  sized = record { few = has .event-count .most; period-most = λ v h. has .periods v h .most; barred = barred }
 
-  met-same : (t : List ℕ) (a : ℕ) → a < arcs N → metIn R t a ≡ met N t a
-  unfolding metIn slack
+  met-same : (t : List ℕ) (a : ℕ) → a < arcs N → metIn (R .bars) t a ≡ met N t a
+  unfolding metAt
   met-same t a h =
-      let from = at t (tail N a) in
-      let to = at t (head N a) in
-      (λ j. leb (slackAt (gap-at a h j) (offset-at a h j) from to) (width-at a h j))
-      ∙ ap (λ (x : ℕ). leb x (widthOf N a)) (slack-same (arcPeriod N a) (lower N a) from to (arc-period N a has h .some))
-      ∙ sym (met-width N t a has h)
+      let b = bar a h in
+      (λ j. leb (b .run-is j) (past (b .gap-is j) (b .shift-is j) (at t (b .near-is j)) (at t (b .last-is j)))) ∙ met-bar has h t
 
-  pub fitting : {t : List ℕ} → Feasible N t → Fitting R t
+  fitting : {t : List ℕ} → Feasible N t → Fitting R t
   unfolding allowed
   fitting {t} p = record {
     long = p .timetable .long;
@@ -134,7 +208,7 @@ module _ {N : Network} {o w g o′ w′ g′ : List ℕ} (lent : RowsLent N o w 
     met = λ a h. met-same t a h ∙ p .each-met a h;
   }
 
-  pub feasible : {t : List ℕ} → Fitting R t → Feasible N t
+  feasible : {t : List ℕ} → Fitting R t → Feasible N t
   unfolding allowed
   feasible {t} p = record {
     timetable = record { long = p .long; inside = λ v h. lt-ltb (at t v) (period N v) (p .inside v h) };
@@ -147,3 +221,26 @@ module _ {N : Network} {o w g o′ w′ g′ : List ℕ} (lent : RowsLent N o w 
       let l = p .found refl in
       found (record { feasible = feasible (l .feasible); least = λ v q s. l .least v (fitting q) (agree-none t v) s })
   looked {t} {u} false p = nothing (λ v q. p .none-left refl .never v (fitting q) (agree-none t v))
+
+-- ---- and of the rows of scratch, as calls leave them
+
+module _ {N : Network} {bars bars′ firsts nexts : List ℕ} (w : WellFormed N) (lent : Lent N bars firsts nexts) (e : bars′ ≡ putArcs N bars (arcs N)) where
+  bars-lent : BarsLent N bars
+  bars-lent = record { well = w; long = lent .bars-long }
+
+  pub thread-asks : ThreadAsks bars′ firsts nexts
+  thread-asks = record {
+    few = omega (arith, lent .firsts-long, sound N w .event-count .most);
+    barred = rw (lent .firsts-long, lent .nexts-long, e) (barred bars-lent);
+    empty = λ v h. omega (arith, lent .nexts-long, lent .empty v (omega (arith, lent .firsts-long)));
+  }
+
+  module _ {m : ℕ} (q : m ≡ length nexts) where
+    as-left : reduced (N .periods) (putArcs N bars (arcs N)) (arcs N) ≡ reduced (N .periods) bars′ m
+    as-left = sym (λ j. reduced (N .periods) (e j) ((q ∙ lent .nexts-long) j))
+
+    pub sized-left : Sized (reduced (N .periods) bars′ m)
+    sized-left = subst Sized as-left (sized bars-lent)
+
+    pub looked-left : {t u : List ℕ} (r : Bool) → Placed (reduced (N .periods) bars′ m) t 0 u r → Looked N u r
+    looked-left {t} {u} r p = looked bars-lent r (subst (λ (R : Reduced). Placed R t 0 u r) (sym as-left) p)

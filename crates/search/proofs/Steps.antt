@@ -7,76 +7,63 @@ use Prim.Native.Nat.{ℕ, _+_, _<_, _≤_}
 use native.Mathlib.Nat.{eq-or-lt-of-le}
 use native.Mathlib.Decide.{decLt}
 use native.Mathlib.Omega.{arith}
-use lib.ListN.{length, set, length-set}
-use lib.Seq.{getD-set-same, ext-getD}
+use lib.ListN.{length, set, take, replicate, length-set}
+use lib.Seq.{getD-set-same, getD-set-other, ext-getD}
 use Rattle.numbers.specs.Row.{at}
 use Rattle.network.specs.PublicRule.{Smaller}
-use Rattle.network.specs.Inner.{TimedEnd}
 use Rattle.network.proofs.Scans.{true-false}
-use Rattle.search.specs.Reduced.{Reduced, eventsIn, arcsIn, periodIn, tailIn, headIn, metIn, Fitting, Sized}
-use Rattle.search.specs.Steps.{Agree, Near, Partial, Blocked, MetAsks, Trial, Ready, LeastFrom, Placed, NoneIn, Passed, Turn, NextAsks, Next, Seek}
+use Rattle.search.specs.Reduced.{Reduced, reduced, eventsIn, periodIn, nearIn, lastIn, metAt, metIn, Fitting, Sized}
+use Rattle.search.specs.Threads.{Threads}
+use Rattle.search.specs.Marks.{EventAsks, Ruled, EventMarked, FirstFree}
+use Rattle.search.specs.Steps.{Agree, Partial, Blocked, Ready, LeastFrom, Placed, NoneIn, Turn, Next, Trying}
 use Rattle.search.proofs.Agreeing.{agree-refl, agree-sym, agree-trans, agree-fewer, agree-more, agree-set}
+use Rattle.search.proofs.Marking.{fresh, fresh-empty}
 
 -- ---- the test of an arc goes by the times at its ends
 
-met-local : (R : Reduced) {k : ℕ} {t u : List ℕ} (a : ℕ) → tailIn R a < k → headIn R a < k → Agree k t u → metIn R t a ≡ metIn R u a
-unfolding metIn
-met-local R a x y g = rw (g .each (tailIn R a) x, g .each (headIn R a) y)
+met-local : {R : Reduced} {k : ℕ} {t u : List ℕ} → Sized R → (a : ℕ) → a < R .arcs → lastIn (R .bars) a < k → Agree k t u → metIn (R .bars) t a ≡ metIn (R .bars) u a
+unfolding metAt
+met-local {R} s a m x g =
+    rw (g .each (nearIn (R .bars) a) (omega (arith, s .barred .near-is a m)), g .each (lastIn (R .bars) a) x)
 
-partial-local : {R : Reduced} {k : ℕ} {t u : List ℕ} → Agree k t u → Partial R t k → Partial R u k
-partial-local {R} g p = record {
+partial-local : {R : Reduced} {k : ℕ} {t u : List ℕ} → Sized R → Agree k t u → Partial R t k → Partial R u k
+partial-local s g p = record {
   inside = λ i h. rw (← g .each i h) (p .inside i h);
-  met = λ a m x y. sym (met-local R a x y g) ∙ p .met a m x y;
+  met = λ a m x. sym (met-local s a m x g) ∙ p .met a m x;
 }
 
-module _ {R : Reduced} {t : List ℕ} {a : ℕ} (c : MetAsks R t a) where
-  pub tail-end : TimedEnd (R .tails) t a
-  tail-end = record { arc = c .arc; event = omega (arith, c .long, c .sized .tail-is a (c .arc)) }
+-- ---- a time put at event k
 
-  pub head-end : TimedEnd (R .heads) t a
-  head-end = record {
-    arc = omega (arith, c .arc, c .sized .heads-long);
-    event = omega (arith, c .long, c .sized .head-is a (c .arc));
+module _ {R : Reduced} {t : List ℕ} {k : ℕ} (c : Ready R t k) (e : k < eventsIn R) (x : ℕ) where
+  pub put-here : at (set t k x) k ≡ x
+  put-here = getD-set-same t k x 0 (omega (arith, c .long))
+
+  -- an arc whose later end is event k
+  met-put : (a : ℕ) → a < R .arcs → lastIn (R .bars) a ≡ k → metIn (R .bars) (set t k x) a ≡ metAt (R .bars) t a x
+  unfolding metAt
+  met-put a m q =
+      rw (q, put-here, getD-set-other t k (nearIn (R .bars) a) x 0 (λ n. omega (arith, n, q, c .sized .barred .near-is a m)))
+
+  pub fit-all : x < periodIn R k → ((a : ℕ) → a < R .arcs → lastIn (R .bars) a ≡ k → metIn (R .bars) (set t k x) a ≡ true) → Partial R (set t k x) (k + 1)
+  fit-all h p = record {
+    inside = λ i l. inside i (eq-or-lt-of-le (omega arith));
+    met = λ a m l. met a m (eq-or-lt-of-le (omega arith));
   }
+    where
+      before : Partial R (set t k x) k
+      before = partial-local (c .sized) (agree-set t k x) (c .before)
 
-  pub near : {from to : ℕ} → from ≡ at t (tailIn R a) → to ≡ at t (headIn R a) → Near (at (R .gaps) a) (at (R .offsets) a) from to
-  near e f = record {
-    some = c .sized .gap-some a (c .arc);
-    most = c .sized .gap-most a (c .arc);
-    offset-most = c .sized .offset-most a (c .arc);
-    from-most = omega (arith, e, c .tail-time);
-    to-most = omega (arith, f, c .head-time);
-  }
+      inside : (i : ℕ) → (i ≡ k) ⊎ (i < k) → at (set t k x) i < periodIn R i
+      inside i (inl q) = rw q (omega (arith, put-here))
+      inside i (inr l) = before .inside i l
 
--- ---- the scan of the arcs
+      met : (a : ℕ) → a < R .arcs → (lastIn (R .bars) a ≡ k) ⊎ (lastIn (R .bars) a < k) → metIn (R .bars) (set t k x) a ≡ true
+      met a m (inl q) = p a m q
+      met a m (inr l) = before .met a m l
 
-pub time-most : {R : Reduced} {t : List ℕ} {k : ℕ} → Trial R t k → (i : ℕ) → i ≤ k → at t i ≤ 3600
-time-most {R} {t} {k} c i h = pick (eq-or-lt-of-le h)
-  where
-    pick : (i ≡ k) ⊎ (i < k) → at t i ≤ 3600
-    pick (inl q) = rw q (omega (arith, c .here, c .sized .period-most k (c .event)))
-    pick (inr l) = omega (arith, c .before .inside i l, c .sized .period-most i (omega (arith, c .event)))
-
-pub fit-all : {R : Reduced} {t : List ℕ} {k : ℕ} → Trial R t k → Passed R t k (arcsIn R) → Partial R t (k + 1)
-fit-all {R} {t} {k} c p = record {
-  inside = λ i h. pick i (eq-or-lt-of-le (omega arith));
-  met = λ a m x y. p .met a m (omega arith) (omega arith);
-}
-  where
-    pick : (i : ℕ) → (i ≡ k) ⊎ (i < k) → at t i < periodIn R i
-    pick i (inl q) = rw q (c .here)
-    pick i (inr l) = c .before .inside i l
-
-pub fit-stop : {R : Reduced} {t : List ℕ} {k : ℕ} (a : ℕ) → a < arcsIn R → tailIn R a ≤ k → headIn R a ≤ k → metIn R t a ≡ false → Blocked R t (k + 1)
-fit-stop {R} a m x y e =
-    record { never = λ u f g. true-false (met-local R a (omega arith) (omega arith) g ∙ f .met a m) e }
-
-pub passed-more : {R : Reduced} {t : List ℕ} {k m : ℕ} → Passed R t k m → (tailIn R m ≤ k → headIn R m ≤ k → metIn R t m ≡ true) → Passed R t k (m + 1)
-passed-more {R} {t} {k} {m} p e = record { met = λ a h. pick a (eq-or-lt-of-le (omega arith)) }
-  where
-    pick : (a : ℕ) → (a ≡ m) ⊎ (a < m) → tailIn R a ≤ k → headIn R a ≤ k → metIn R t a ≡ true
-    pick a (inl q) = rw q e
-    pick a (inr l) = p .met a l
+  pub fit-stop : (a : ℕ) → a < R .arcs → lastIn (R .bars) a ≡ k → metIn (R .bars) (set t k x) a ≡ false → Blocked R (set t k x) (k + 1)
+  fit-stop a m q n =
+      record { never = λ u f g. true-false (met-local (c .sized) a m (omega (arith, q)) g ∙ f .met a m) n }
 
 -- ---- times that are ruled out at event k
 
@@ -91,69 +78,63 @@ none-more {R} {t} {s} {k} {x} {y} none g e b = record { never = λ u f a h l. pi
     pick u f a h (inl q) = b .never u f (agree-more (agree-trans (agree-sym g) a) (e ∙ sym q))
     pick u f a h (inr l) = none .never u f a h l
 
-none-join : {R : Reduced} {t u : List ℕ} {k x y z : ℕ} → NoneIn R t k x y → Agree k t u → NoneIn R u k y z → NoneIn R t k x z
-none-join {R} {t} {u} {k} {x} {y} {z} p g q = record { never = λ v f a h l. pick v f a h l (decLt (at v k) y) }
+none-join : {R : Reduced} {t : List ℕ} {k x y z : ℕ} → NoneIn R t k x y → NoneIn R t k y z → NoneIn R t k x z
+none-join {R} {t} {k} {x} {y} {z} p q = record { never = λ v f a h l. pick v f a h l (decLt (at v k) y) }
   where
     pick : (v : List ℕ) → Fitting R v → Agree k t v → x ≤ at v k → at v k < z → Dec (at v k < y) → ⊥
     pick v f a h l (yes m) = p .never v f a h m
-    pick v f a h l (no m) = q .never v f (agree-trans (agree-sym g) a) (omega (arith, m)) l
+    pick v f a h l (no m) = q .never v f a (omega (arith, m)) l
 
 -- ---- the finder of the next possible time
 
-tried : {R : Reduced} {t u : List ℕ} {k : ℕ} (x : ℕ) → Ready R t k → k < eventsIn R → Agree k t u → length u ≡ length t → x < periodIn R k → Trial R (set u k x) k
-tried {R} {t} {u} {k} x c m g l h = record {
-  sized = c .sized;
-  long = length-set u k x ∙ l ∙ c .long;
-  event = m;
-  before = partial-local (agree-trans g (agree-set u k x)) (c .before);
-  here = rw (getD-set-same u k x 0 (omega (arith, c .long))) h;
+pub period-small : {R : Reduced} {t : List ℕ} {k p : ℕ} → Ready R t k → k < eventsIn R → p ≡ periodIn R k → p ≤ 3600
+period-small {k = k} c e q = omega (arith, c .sized .period-most k e)
+
+pub event-asks : {periods bars firsts nexts t : List ℕ} {k p : ℕ} → Ready (reduced periods bars (length nexts)) t k → k < length periods → p ≡ at periods k
+    → Threads periods bars firsts nexts
+    → EventAsks bars firsts nexts t k (take p (replicate 3600 false))
+event-asks {p = p} c e q w =
+    let h = period-small c e q in
+    let l = fresh p h in
+    record {
+      barred = rw (c .long) (c .sized .barred);
+      threaded = w .threaded;
+      event = omega (arith, w .firsts-long);
+      times = λ i m. omega (arith, c .before .inside i m, c .sized .period-most i (omega arith));
+      few = omega arith;
+      empty = λ x m. fresh-empty p x h (omega arith);
+    }
+
+-- a time with no mark fits, and one that an arc rules out does not
+pub next : {R : Reduced} {t : List ℕ} {k x r : ℕ} {row : List Bool} → Ready R t k → k < eventsIn R → length row ≡ periodIn R k
+    → EventMarked (R .bars) (R .arcs) (R .arcs) t k row → FirstFree row x r → Next R t k x r
+next {r = r} c e l w f = record {
+  least = f .least;
+  most = omega (arith, l, f .most);
+  passed = λ y h m. w .marked y (omega (arith, f .most)) (f .passed y h m);
+  fit = λ h. fit-all c e r h (λ a m q. met-put c e r a m q ∙ w .clear r (omega (arith, l)) (f .free (omega (arith, l))) a m m q);
 }
 
-pub seek-first : {R : Reduced} {t : List ℕ} {k x : ℕ} → NextAsks R t k x → Seek R t k x t x
-seek-first {t = t} {k = k} {x = x} c =
-    record { long = refl; same = agree-refl k t; least = omega arith; most = c .time; none-in = none-empty t k x }
+module _ {R : Reduced} {t : List ℕ} {k : ℕ} (c : Ready R t k) (e : k < eventsIn R) where
+  ruled-stop : {x : ℕ} → Ruled (R .bars) (R .arcs) t k x → Blocked R (set t k x) (k + 1)
+  ruled-stop {x} r =
+      fit-stop c e x (r .arc) (r .below) (r .ends) (met-put c e x (r .arc) (r .below) (r .ends) ∙ r .unmet)
 
-module _ {R : Reduced} {t u : List ℕ} {k x y : ℕ} (c : NextAsks R t k x) (w : Seek R t k x u y) where
-  pub seek-trial : y < periodIn R k → Trial R (set u k y) k
-  seek-trial h = tried y (c .ready) (c .event) (w .same) (w .long) h
-
-  pub seek-long : length (set u k y) ≡ length t
-  seek-long = length-set u k y ∙ w .long
-
-  seek-same : Agree k t (set u k y)
-  seek-same = agree-trans (w .same) (agree-set u k y)
-
-  seek-at : at (set u k y) k ≡ y
-  seek-at = getD-set-same u k y 0 (omega (arith, c .ready .long, c .event, w .long))
-
-  pub seek-blocked : y < periodIn R k → Blocked R (set u k y) (k + 1) → Seek R t k x (set u k y) (y + 1)
-  seek-blocked h b = record {
-    long = seek-long;
-    same = seek-same;
-    least = omega (arith, w .least);
-    most = omega arith;
-    none-in = none-more (w .none-in) seek-same seek-at b;
+  next-none : {x r : ℕ} → Next R t k x r → NoneIn R t k x r
+  next-none n = record {
+    never = λ v f a h m.
+        ruled-stop (n .passed (at v k) h m)
+        .never v f (agree-more (agree-trans (agree-sym (agree-set t k (at v k))) a) (put-here c e (at v k)));
   }
 
-  pub seek-found : Partial R (set u k y) (k + 1) → Next R t k x (set u k y) y
-  seek-found p = record {
-    same = seek-same;
-    least = w .least;
-    most = w .most;
-    none-in = w .none-in;
-    here = λ h. seek-at;
-    fit = λ h. p;
-  }
+  -- what is found is decided: no time that fits is passed
+  not-passed : {x r s : ℕ} → Next R t k x r → Next R t k x s → r < s → ⊥
+  not-passed {r = r} n o l =
+      let p = o .passed r (n .least) l in
+      true-false (n .fit (omega (arith, o .most)) .met (p .arc) (p .below) (omega (arith, p .ends))) (met-put c e r (p .arc) (p .below) (p .ends) ∙ p .unmet)
 
-  pub seek-last : periodIn R k ≤ y → Next R t k x u y
-  seek-last h = record {
-    same = w .same;
-    least = w .least;
-    most = w .most;
-    none-in = w .none-in;
-    here = λ l. absurd (omega arith);
-    fit = λ l. absurd (omega arith);
-  }
+  pub next-one : {x r s : ℕ} → Next R t k x r → Next R t k x s → r ≡ s
+  next-one n o = omega (arith, not-passed n o, not-passed o n)
 
 -- ---- the search at event k
 
@@ -165,7 +146,7 @@ done {R} {t} {k} c e = record {
   feasible = record {
     long = c .long;
     inside = λ i h. c .before .inside i (omega arith);
-    met = λ a m. c .before .met a m (omega (arith, c .sized .tail-is a m)) (omega (arith, c .sized .head-is a m));
+    met = λ a m. c .before .met a m (omega (arith, c .sized .barred .last-is a m));
   };
   least = λ v f g s. beyond v f g s;
 }
@@ -185,14 +166,6 @@ placed-all {t = t} {k = k} c e =
 pub turn-first : {R : Reduced} (t : List ℕ) (k : ℕ) → Turn R t k t 0
 turn-first t k = record { long = refl; same = agree-refl k t; none-in = none-empty t k 0 }
 
-pub turn-ready : {R : Reduced} {t u : List ℕ} {k x : ℕ} → Ready R t k → Turn R t k u x → Ready R u k
-turn-ready c w =
-    record { sized = c .sized; long = w .long ∙ c .long; most = c .most; before = partial-local (w .same) (c .before) }
-
-pub turn-next : {R : Reduced} {t u v : List ℕ} {k x r : ℕ} → Turn R t k u x → length v ≡ length u → Next R u k x v r → Turn R t k v r
-turn-next w l n =
-    record { long = l ∙ w .long; same = agree-trans (w .same) (n .same); none-in = none-join (w .none-in) (w .same) (n .none-in) }
-
 pub turn-last : {R : Reduced} {t u : List ℕ} {k x : ℕ} → k < eventsIn R → periodIn R k ≤ x → Turn R t k u x → Placed R t k u false
 turn-last {k = k} m h w = record {
   kept = w .same;
@@ -200,8 +173,31 @@ turn-last {k = k} m h w = record {
   none-left = λ q. record { never = λ u f a. w .none-in .never u f a (omega arith) (omega (arith, f .inside k m)) };
 }
 
-pub step-ready : {R : Reduced} {t u v : List ℕ} {k x r : ℕ} → Ready R t k → k < eventsIn R → Turn R t k v r → Next R u k x v r → r < periodIn R k → Ready R v (k + 1)
-step-ready c m w n h = record { sized = c .sized; long = w .long ∙ c .long; most = omega (arith, m); before = n .fit h }
+-- ---- the finder found r
+
+pub trying : {R : Reduced} {t u : List ℕ} {k x r : ℕ} → Ready R t k → k < eventsIn R → Turn R t k u x → Next R t k x r → Trying R t k u r
+trying c e w n =
+    record { turn = record { long = w .long; same = w .same; none-in = none-join (w .none-in) (next-none c e n) }; fit = n .fit }
+
+-- it is put there
+module _ {R : Reduced} {t u : List ℕ} {k r : ℕ} (c : Ready R t k) (m : k < eventsIn R) (w : Trying R t k u r) where
+  pub tried : Turn R t k (set u k r) r
+  tried = record {
+    long = length-set u k r ∙ w .turn .long;
+    same = agree-trans (w .turn .same) (agree-set u k r);
+    none-in = w .turn .none-in;
+  }
+
+  pub tried-here : at (set u k r) k ≡ r
+  tried-here = getD-set-same u k r 0 (omega (arith, c .long, w .turn .long))
+
+  pub tried-ready : r < periodIn R k → Ready R (set u k r) (k + 1)
+  tried-ready h = record {
+    sized = c .sized;
+    long = tried .long ∙ c .long;
+    most = omega (arith, m);
+    before = partial-local (c .sized) (agree-more (agree-trans (agree-sym (agree-set t k r)) (tried .same)) (put-here c m r ∙ sym tried-here)) (w .fit h);
+  }
 
 -- ---- a turn: the time r stands at event k of the row v, and the rest is placed
 
@@ -244,5 +240,5 @@ start s l = record {
   sized = s;
   long = l;
   most = omega arith;
-  before = record { inside = λ i h. absurd (omega arith); met = λ a m x y. absurd (omega arith) };
+  before = record { inside = λ i h. absurd (omega arith); met = λ a m x. absurd (omega arith) };
 }

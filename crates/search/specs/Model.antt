@@ -2,36 +2,30 @@
 use mathlib.Core.List.{List}
 use mathlib.Core.Option.{Option, some, none}
 use mathlib.Core.Bool.{Bool, true, false, not, _&&_}
-use Prim.Native.Nat.{ℕ, zero, suc, _+_, max}
+use Prim.Native.Nat.{ℕ, zero, suc, _+_, _*_}
 use lib.Dec.{eqb}
 use lib.ListN.{set, replicate}
 use Rattle.network.specs.Network.{Network, events, arcs}
-use Rattle.network.specs.PublicRule.{arcPeriod, widthOf}
 use Rattle.network.specs.First.{first}
-use Rattle.network.specs.Rows.{written}
-use Rattle.search.specs.Reduced.{Reduced, rows, arcsIn, periodIn, tailIn, headIn, metIn, offsetOf}
+use Rattle.search.specs.Reduced.{Reduced, reduced, periodIn, lastIn, metIn, putArcs}
 
 -- a row of n zeros
 abbrev pub zeros : ℕ → List ℕ
 zeros n = replicate n 0
 
--- the network in unsigned numbers, its offsets, widths and gaps written over zeros
-unfoldable pub rowsFor : Network → Reduced
-rowsFor N =
+-- the network in unsigned numbers, its arcs written over zeros
+unfoldable pub reducedFor : Network → Reduced
+reducedFor N =
     let m = arcs N in
-    rows (N .periods) (N .tails) (N .heads) (written (offsetOf N) m (zeros m)) (written (widthOf N) m (zeros m)) (written (arcPeriod N) m (zeros m))
-
--- the later end of arc a
-abbrev pub lastIn : Reduced → ℕ → ℕ
-lastIn R a = max (tailIn R a) (headIn R a)
+    reduced (N .periods) (putArcs N (zeros (5 * m)) m) m
 
 -- arc a stands in the way of the time at event k: k is its later end, and it is not met
 unfoldable pub hinders : Reduced → List ℕ → ℕ → ℕ → Bool
-hinders R t k a = eqb (lastIn R a) k && not (metIn R t a)
+hinders R t k a = eqb (lastIn (R .bars) a) k && not (metIn (R .bars) t a)
 
 -- the time at event k fits those before it: no arc stands in its way
 unfoldable pub fits : Reduced → List ℕ → ℕ → Bool
-fits R t k = eqb (first (hinders R t k) (arcsIn R)) (arcsIn R)
+fits R t k = eqb (first (hinders R t k) (R .arcs)) (R .arcs)
 
 -- c attempts, at the times from x on: the first row that one of them gives
 unfoldable pub tries : (ℕ → Option (List ℕ)) → ℕ → ℕ → Option (List ℕ)
@@ -45,4 +39,4 @@ find R (suc f) k t = tries (λ x. elim (fits R (set t k x) k) [ true ↦ find R 
 
 -- the smallest feasible timetable of a well-formed network, or none
 unfoldable pub smallestOf : Network → Option (List ℕ)
-smallestOf N = find (rowsFor N) (events N) 0 (zeros (events N))
+smallestOf N = find (reducedFor N) (events N) 0 (zeros (events N))

@@ -1,91 +1,125 @@
--- A network in unsigned numbers, worked out once before the search: for each arc its period (gap), less its lower bound by that period (offset), and
--- the slack up to which it is met (width). Definitions alone.
+-- A network in unsigned numbers, worked out once before the search. Each arc is seen from its later end, the one with the greater number: in each
+-- lap of the arc's period (gap) it bars one run of times there, which begins a shift after the time at its earlier end. Definitions alone.
 use mathlib.Core.Path.{_≡_}
 use mathlib.Core.List.{List}
-use mathlib.Core.Bool.{Bool, true}
-use Prim.Native.Nat.{ℕ, _<_, _≤_}
-use lib.IntN.{pos, negℤ}
-use lib.ListN.{length}
-use lib.Dec.{leb}
+use mathlib.Core.Bool.{Bool, true, cond}
+use Prim.Native.Nat.{ℕ, zero, suc, _+_, _*_, _-_, _<_, _≤_, min, max}
+use lib.IntN.{ℤ, pos, _-ℤ_}
+use lib.ListN.{length, set}
+use lib.Dec.{leb, ltb}
 use denote.Ref.{RefT, now}
-use Rattle.network.specs.Network.{Network, arcs, lower}
+use Rattle.network.specs.Network.{Network, events, arcs, tail, head, lower}
 use Rattle.numbers.specs.Row.{at}
-use Rattle.network.specs.PublicRule.{arcPeriod, slackBy, widthOf}
+use Rattle.network.specs.PublicRule.{arcPeriod, slackBy, working, widthOf}
 use Rattle.network.specs.Table.{WellFormed}
-use Rattle.network.specs.Rows.{written}
+
+-- the row of bars has five numbers for each arc, side by side: its earlier end, its later end, the shift, the length of the run, the gap
+abbrev pub nearIn : List ℕ → ℕ → ℕ
+nearIn bars a = at bars (5 * a)
+
+abbrev pub lastIn : List ℕ → ℕ → ℕ
+lastIn bars a = at bars (5 * a + 1)
+
+abbrev pub shiftIn : List ℕ → ℕ → ℕ
+shiftIn bars a = at bars (5 * a + 2)
+
+abbrev pub runIn : List ℕ → ℕ → ℕ
+runIn bars a = at bars (5 * a + 3)
+
+abbrev pub gapIn : List ℕ → ℕ → ℕ
+gapIn bars a = at bars (5 * a + 4)
+
+-- how far a time is past the beginning of the last run before it
+abbrev pub past : ℕ → ℕ → ℕ → ℕ → ℕ
+past gap shift from to = slackBy gap (pos shift) from to
+
+-- arc a is met with time x at its later end: x is past the whole run
+unfoldable pub metAt : List ℕ → List ℕ → ℕ → ℕ → Bool
+metAt bars t a x = leb (runIn bars a) (past (gapIn bars a) (shiftIn bars a) (at t (nearIn bars a)) x)
+
+abbrev pub metIn : List ℕ → List ℕ → ℕ → Bool
+metIn bars t a = metAt bars t a (at t (lastIn bars a))
 
 pub record Reduced : Type 0 where
   pub periods : List ℕ
-  pub tails : List ℕ
-  pub heads : List ℕ
-  pub offsets : List ℕ
-  pub widths : List ℕ
-  pub gaps : List ℕ
+  pub bars : List ℕ
+  pub arcs : ℕ
 
--- of six rows, and of six lent rows
-abbrev pub rows : List ℕ → List ℕ → List ℕ → List ℕ → List ℕ → List ℕ → Reduced
-rows p t h o w g = record { periods = p; tails = t; heads = h; offsets = o; widths = w; gaps = g }
+abbrev pub reduced : List ℕ → List ℕ → ℕ → Reduced
+reduced p b m = record { periods = p; bars = b; arcs = m }
 
-abbrev pub rowsOf : RefT (List ℕ) → RefT (List ℕ) → RefT (List ℕ) → RefT (List ℕ) → RefT (List ℕ) → RefT (List ℕ) → Reduced
-rowsOf p t h o w g = rows (now p) (now t) (now h) (now o) (now w) (now g)
+-- of two lent rows, and of one that has an entry for each arc
+abbrev pub reducedOf : RefT (List ℕ) → RefT (List ℕ) → RefT (List ℕ) → Reduced
+reducedOf p b nexts = reduced (now p) (now b) (length (now nexts))
 
 abbrev pub eventsIn : Reduced → ℕ
 eventsIn R = length (R .periods)
 
-abbrev pub arcsIn : Reduced → ℕ
-arcsIn R = length (R .tails)
-
 abbrev pub periodIn : Reduced → ℕ → ℕ
 periodIn R v = at (R .periods) v
-
-abbrev pub tailIn : Reduced → ℕ → ℕ
-tailIn R a = at (R .tails) a
-
-abbrev pub headIn : Reduced → ℕ → ℕ
-headIn R a = at (R .heads) a
-
--- the slack of an arc whose lower bound is less its offset
-abbrev pub slackAt : ℕ → ℕ → ℕ → ℕ → ℕ
-slackAt gap offset from to = slackBy gap (negℤ (pos offset)) from to
-
--- arc a is met: its slack is at most its width
-unfoldable pub metIn : Reduced → List ℕ → ℕ → Bool
-metIn R t a = leb (slackAt (at (R .gaps) a) (at (R .offsets) a) (at t (tailIn R a)) (at t (headIn R a))) (at (R .widths) a)
 
 -- a time below its period for each event, and every arc met
 pub record Fitting (R : Reduced) (t : List ℕ) : Type 0 where
   pub long : length t ≡ eventsIn R
   pub inside : (v : ℕ) → v < eventsIn R → at t v < periodIn R v
-  pub met : (a : ℕ) → a < arcsIn R → metIn R t a ≡ true
+  pub met : (a : ℕ) → a < R .arcs → metIn (R .bars) t a ≡ true
 
--- rows that the search can work on
+-- m arcs between n events that the search can work on
+pub record Barred (n m : ℕ) (bars : List ℕ) : Type 0 where
+  pub few-arcs : m ≤ 256
+  pub long : length bars ≡ 5 * m
+  pub near-is : (a : ℕ) → a < m → nearIn bars a < lastIn bars a
+  pub last-is : (a : ℕ) → a < m → lastIn bars a < n
+  pub shift-most : (a : ℕ) → a < m → shiftIn bars a < gapIn bars a
+  pub run-most : (a : ℕ) → a < m → runIn bars a < gapIn bars a
+  pub gap-most : (a : ℕ) → a < m → gapIn bars a ≤ 3600
+
 pub record Sized (R : Reduced) : Type 0 where
   pub few : eventsIn R ≤ 64
-  pub few-arcs : arcsIn R ≤ 256
-  pub heads-long : length (R .heads) ≡ arcsIn R
-  pub offsets-long : length (R .offsets) ≡ arcsIn R
-  pub widths-long : length (R .widths) ≡ arcsIn R
-  pub gaps-long : length (R .gaps) ≡ arcsIn R
   pub period-most : (v : ℕ) → v < eventsIn R → periodIn R v ≤ 3600
-  pub tail-is : (a : ℕ) → a < arcsIn R → tailIn R a < eventsIn R
-  pub head-is : (a : ℕ) → a < arcsIn R → headIn R a < eventsIn R
-  pub gap-some : (a : ℕ) → a < arcsIn R → 0 < at (R .gaps) a
-  pub gap-most : (a : ℕ) → a < arcsIn R → at (R .gaps) a ≤ 3600
-  pub offset-most : (a : ℕ) → a < arcsIn R → at (R .offsets) a ≤ 3600
+  pub barred : Barred (eventsIn R) (R .arcs) (R .bars)
 
--- less the lower bound of arc a by its period: its slack where both times are 0
-abbrev pub offsetOf : Network → ℕ → ℕ
-offsetOf N a = slackBy (arcPeriod N a) (lower N a) 0 0
+-- the ends of arc a in the order of their numbers
+abbrev pub nearOf : Network → ℕ → ℕ
+nearOf N a = min (tail N a) (head N a)
 
--- three rows with an entry for each arc
-pub record RowsLent (N : Network) (offsets widths gaps : List ℕ) : Type 0 where
+abbrev pub lastOf : Network → ℕ → ℕ
+lastOf N a = max (tail N a) (head N a)
+
+-- the last time that arc a leaves at its later end, less the time at its earlier end, is the working upper bound where that end is its tail, and less
+-- the lower bound where it is its head; here with the other sign
+abbrev pub edgeOf : Network → ℕ → ℤ
+edgeOf N a = cond (ltb (tail N a) (head N a)) (pos 0 -ℤ working N a) (lower N a)
+
+-- one tick later the run begins, by the arc's period; of the times of a lap it leaves one more than the arc's width
+abbrev pub shiftOf : Network → ℕ → ℕ
+shiftOf N a = slackBy (arcPeriod N a) (edgeOf N a) 0 1
+
+abbrev pub runOf : Network → ℕ → ℕ
+runOf N a = (arcPeriod N a - 1) - widthOf N a
+
+-- the five numbers of arc a written into their row
+abbrev pub put : List ℕ → ℕ → ℕ → ℕ → ℕ → ℕ → ℕ → List ℕ
+put bars a near last shift run gap = set (set (set (set (set bars (5 * a) near) (5 * a + 1) last) (5 * a + 2) shift) (5 * a + 3) run) (5 * a + 4) gap
+
+unfoldable pub putArc : Network → List ℕ → ℕ → List ℕ
+putArc N bars a = put bars a (nearOf N a) (lastOf N a) (shiftOf N a) (runOf N a) (arcPeriod N a)
+
+-- and those of the arcs below m
+unfoldable pub putArcs : Network → List ℕ → ℕ → List ℕ
+putArcs N bars zero = bars
+putArcs N bars (suc m) = putArc N (putArcs N bars m) m
+
+-- a row with room for the five
+pub record PutAsks (bars : List ℕ) (a : ℕ) : Type 0 where
+  pub few : a < 256
+  pub arc : 5 * a + 4 < length bars
+
+-- a row with five entries for each arc
+pub record BarsLent (N : Network) (bars : List ℕ) : Type 0 where
   pub well : WellFormed N
-  pub offsets-long : length offsets ≡ arcs N
-  pub widths-long : length widths ≡ arcs N
-  pub gaps-long : length gaps ≡ arcs N
+  pub long : length bars ≡ 5 * arcs N
 
--- after k arcs, the rows that were o, w and g
-pub record RowsFilled (N : Network) (k : ℕ) (o w g offsets widths gaps : List ℕ) : Type 0 where
-  pub offsets-are : offsets ≡ written (offsetOf N) k o
-  pub widths-are : widths ≡ written (widthOf N) k w
-  pub gaps-are : gaps ≡ written (arcPeriod N) k g
+pub record BarLent (N : Network) (bars : List ℕ) (a : ℕ) : Type 0 where
+  pub lent : BarsLent N bars
+  pub arc : a < arcs N

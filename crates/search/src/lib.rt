@@ -1,12 +1,12 @@
 // The smallest feasible timetable of a network, or that there is none.
-ghost use mathlib.Core.Path.{_≡_};
-ghost use lib.ListN.{length};
 ghost use Rattle.network.specs.Network.{netOf};
 ghost use Rattle.search.specs.Looked.{Looked, Asked};
-ghost use Rattle.search.specs.Reduced.{RowsLent};
+ghost use Rattle.search.specs.Threads.{Lent};
 
 mod depth;
+mod marks;
 mod reduce;
+mod thread;
 
 // Looks for the smallest timetable over three rows of scratch.
 fn look(
@@ -17,35 +17,17 @@ fn look(
     upper: &[i32],
     weight: &[u32],
     times: &mut [u32],
-    offsets: &mut [u32],
-    widths: &mut [u32],
-    gaps: &mut [u32],
+    bars: &mut [u32],
+    firsts: &mut [u32],
+    nexts: &mut [u32],
 ) -> bool
-    requires { ⌜ RowsLent (netOf periods tail head lower upper weight) (now offsets) (now widths) (now gaps) ⌝ }
-    requires { ⌜ length (now times) ≡ length (now periods) ⌝ }
+    requires { ⌜ Asked (netOf periods tail head lower upper weight) (now times) ⌝ }
+    requires { ⌜ Lent (netOf periods tail head lower upper weight) (now bars) (now firsts) (now nexts) ⌝ }
     ensures { λ r. ⌜ Looked (netOf (periods .entry) (tail .entry) (head .entry) (lower .entry) (upper .entry) (weight .entry)) (now (times .exit)) r ⌝ }
 {
-    reduce::reduce(
-        periods,
-        tail,
-        head,
-        lower,
-        upper,
-        weight,
-        offsets,
-        widths,
-        gaps,
-    );
-    depth::place(
-        periods,
-        tail,
-        head,
-        &offsets[..],
-        &widths[..],
-        &gaps[..],
-        times,
-        0,
-    )
+    reduce::reduce(periods, tail, head, lower, upper, weight, bars);
+    thread::thread(&bars[..], firsts, nexts);
+    depth::place(periods, &bars[..], &firsts[..], &nexts[..], times, 0)
 }
 
 // The smallest feasible timetable, written into the row; or false where there is none.
@@ -61,10 +43,11 @@ pub fn smallest(
     requires { ⌜ Asked (netOf periods tail head lower upper weight) (now times) ⌝ }
     ensures { λ r. ⌜ Looked (netOf (periods .entry) (tail .entry) (head .entry) (lower .entry) (upper .entry) (weight .entry)) (now (times .exit)) r ⌝ }
 {
+    let n = periods.len();
     let m = tail.len();
-    let mut offsets = [0u32; 256];
-    let mut widths = [0u32; 256];
-    let mut gaps = [0u32; 256];
+    let mut bars = [0u32; 1280];
+    let mut firsts = [256u32; 64];
+    let mut nexts = [0u32; 256];
     look(
         periods,
         tail,
@@ -73,8 +56,8 @@ pub fn smallest(
         upper,
         weight,
         times,
-        &mut offsets[..m],
-        &mut widths[..m],
-        &mut gaps[..m],
+        &mut bars[..5 * m],
+        &mut firsts[..n],
+        &mut nexts[..m],
     )
 }

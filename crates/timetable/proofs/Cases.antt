@@ -8,8 +8,8 @@ use Rattle.network.specs.First.{first}
 use Rattle.network.specs.Refusals.{answerOf, after}
 use Rattle.network.specs.Table.{outside, outsideℤ, uneven, strays, refusalsWith}
 use Rattle.network.specs.Rows.{written, short, noted}
-use Rattle.search.specs.Reduced.{metIn}
-use Rattle.search.specs.Model.{rowsFor, hinders, fits, tries, find, smallestOf}
+use Rattle.search.specs.Reduced.{metAt, putArc, putArcs}
+use Rattle.search.specs.Model.{reducedFor, hinders, fits, tries, find, smallestOf}
 use Rattle.walks.specs.Model.{own, step, run, answer}
 use Rattle.timetable.specs.Measure.{measureRefusals, measureOf}
 use Rattle.timetable.specs.Solve.{solveRefusals, solveJudged}
@@ -20,7 +20,7 @@ use Rattle.timetable.proofs.Models.{only}
 
 -- one test over the whole list
 all : map (λ (c : Case). computed (c .call)) cases ≡ map (λ (c : Case). c .said) cases
-unfolding gcd remainder quotient arcPeriod slack tension turnOf working widthOf arcCost costTo first answerOf after outside outsideℤ uneven strays refusalsWith written short noted metIn rowsFor hinders fits tries find smallestOf own step run answer measureRefusals measureOf solveRefusals solveJudged rebuildRefusals rebuildJudged measureModel solveModel rebuildModel
+unfolding gcd remainder quotient arcPeriod slack tension turnOf working widthOf arcCost costTo first answerOf after outside outsideℤ uneven strays refusalsWith written short noted metAt putArc putArcs reducedFor hinders fits tries find smallestOf own step run answer measureRefusals measureOf solveRefusals solveJudged rebuildRefusals rebuildJudged measureModel solveModel rebuildModel
 all = refl
 
 -- and so of each case

@@ -1,10 +1,12 @@
--- `search::smallest` meets its contract: it lends rows of its own, one entry for each arc. Assumes nothing.
-use Prim.Native.Nat.{_≤_}
+-- `search::smallest` meets its contract: it lends rows of its own, five entries for each arc, one for each event and one for each arc. Assumes nothing.
+use Prim.Native.Nat.{_*_, _≤_}
 use mathlib.Core.Path.{sym}
+use native.Mathlib.Omega.{arith}
 use lib.ListN.{length}
 use lib.Seq.{length-take-le}
 use borrow.Author.Needs.{needs}
 use Rattle.network.proofs.Sound.{sound}
+use Rattle.search.proofs.Threads.{no-arc}
 use Rattle.search.proofs.smallest.Statement.{statement}
 use Rattle.search.proofs.smallest.Tie as tie
 
@@ -14,35 +16,43 @@ start c = c .before .before .before .before .before .before
 few : (c : tie.After-look-arg) → length (start c .args .tail .now) ≤ 256
 few c = sound _ (start c .pre .well) .even .few-arcs
 
-array-borrow-prefix-offsets : tie.Need-array-borrow-prefix-offsets
-array-borrow-prefix-offsets c = few c
+five : (c : tie.After-look-arg) → 5 * length (start c .args .tail .now) ≤ 1280
+five c = omega (arith, few c)
+
+few-events : (c : tie.After-look-arg) → length (start c .args .periods .now) ≤ 64
+few-events c = sound _ (start c .pre .well) .event-count .most
+
+mul-bars : tie.Need-mul-bars
+mul-bars c = omega (arith, few c)
+
+array-borrow-prefix-bars : tie.Need-array-borrow-prefix-bars
+array-borrow-prefix-bars c = five c
 
 slice-aggregate-look : tie.Need-slice-aggregate-look
-slice-aggregate-look c = sym (length-take-le _ _ (few (c .before)))
+slice-aggregate-look c = sym (length-take-le _ _ (five (c .before)))
 
-array-borrow-prefix-widths : tie.Need-array-borrow-prefix-widths
-array-borrow-prefix-widths c = few (c .before)
+array-borrow-prefix-firsts : tie.Need-array-borrow-prefix-firsts
+array-borrow-prefix-firsts c = few-events (c .before)
 
 slice-aggregate-look-2 : tie.Need-slice-aggregate-look-2
-slice-aggregate-look-2 c = sym (length-take-le _ _ (few (c .before .before)))
+slice-aggregate-look-2 c = sym (length-take-le _ _ (few-events (c .before .before)))
 
-array-borrow-prefix-gaps : tie.Need-array-borrow-prefix-gaps
-array-borrow-prefix-gaps c = few (c .before .before)
+array-borrow-prefix-nexts : tie.Need-array-borrow-prefix-nexts
+array-borrow-prefix-nexts c = few (c .before .before)
 
 slice-aggregate-look-3 : tie.Need-slice-aggregate-look-3
 slice-aggregate-look-3 c = sym (length-take-le _ _ (few (c .before .before .before)))
 
 look-requires : tie.Need-look-requires
 look-requires c κs =
-    let a = c .before .before .before in
-    let s = start a in (
+    let a = c .before .before .before in (
+      start a .pre,
       record {
-        well = s .pre .well;
-        offsets-long = length-take-le _ _ (few a);
-        widths-long = length-take-le _ _ (few a);
-        gaps-long = length-take-le _ _ (few a);
+        bars-long = length-take-le _ _ (five a);
+        firsts-long = length-take-le _ _ (few-events a);
+        nexts-long = length-take-le _ _ (few a);
+        empty = λ v h. no-arc _ v (few-events a) h (few a);
       },
-      s .pre .long,
     )
 
 same-length : tie.Need-same-length
@@ -55,11 +65,12 @@ pub smallest-spec : {M : Type 1} → statement M
 smallest-spec =
     tie.close
     (tie.spec
-    array-borrow-prefix-offsets
+    mul-bars
+    array-borrow-prefix-bars
     slice-aggregate-look
-    array-borrow-prefix-widths
+    array-borrow-prefix-firsts
     slice-aggregate-look-2
-    array-borrow-prefix-gaps
+    array-borrow-prefix-nexts
     slice-aggregate-look-3
     look-requires
     same-length
