@@ -14,17 +14,16 @@ use mir.Syntax.{w32, w64}
 use mir.Val.{SFits, toZ, ofZ}
 use lib.ListN.{length, getD, set, length-set}
 use lib.Seq.{getD-set-same, getD-set-other}
-use Rattle.numbers.proofs.Integers.{zed, ofSub}
 use Rattle.numbers.proofs.Bits.{of}
 use Rattle.numbers.specs.Row.{at}
 use Rattle.network.specs.Network.{Network, arcs, tail, head, lower, upper, weight}
-use Rattle.network.specs.PublicRule.{arcPeriod, slackBy, slack, tension, workingBy, working, arcCost, costTo}
+use Rattle.network.specs.PublicRule.{arcPeriod, slackBy, slack, tension, workingBy, working, widthOf, arcCost, costTo}
 use Rattle.network.specs.Table.{WellFormed}
 use Rattle.network.specs.Rows.{written, ArcRows, short, shortFor}
 use Rattle.network.specs.Trial.{AsksPeriod}
 use Rattle.network.specs.Inner.{Span, TimedArc, TimedEnd}
 use Rattle.network.proofs.Sound.{Inside, Sound, sound, arc-period, neither}
-use Rattle.network.proofs.Width.{size, narrow, slack-below}
+use Rattle.network.proofs.Width.{narrow, width-below, slack-below}
 
 -- a signed result of a call is passed on as it is
 pub kept : {z : ℤ} → mag z < 2147483648 → toZ w32 (ofZ w32 z) ≡ z
@@ -83,11 +82,10 @@ module _ {N : Network} {a : ℕ} (c : ArcOf N a) where
   working-is p e f q = q ∙ (λ j. workingBy (p j) (e j) (f j))
 
   pub span : {low high : ℤ} → low ≡ lower N a → high ≡ working N a → Span low high
+  unfolding widthOf
   span e f =
-      let n = narrow N a has (c .arc) in
-      let d = working N a -ℤ lower N a in
-      let z = size d (omega (arith, zed, n .ordered, ofSub (working N a) (lower N a))) in
-      rw (e, f) (record { ordered = n .ordered; small = omega (arith, zed, z, n .below, period-of .most) })
+      rw (e, f)
+      (record { ordered = narrow N a has (c .arc) .ordered; small = omega (arith, width-below N a has (c .arc), period-of .most) })
 
 -- ---- and with times at its ends
 

@@ -90,6 +90,17 @@ narrow N a s h =
     let p = arc-period N a s h .some in
     record { ordered = working-from p (s .ordered a h); below = working-below p (s .ordered a h) }
 
+-- it is lower and the width, which is below the arc period
+module _ (N : Network) (a : ℕ) (s : Sound N) (h : a < arcs N) where
+  pub width-is : up (working N a) + dn (lower N a) ≡ up (lower N a) + dn (working N a) + widthOf N a
+  unfolding widthOf
+  width-is =
+      let d = ofSub (working N a) (lower N a) in
+      omega (arith, zed, d, size (working N a -ℤ lower N a) (omega (arith, zed, d, narrow N a s h .ordered)))
+
+  pub width-below : widthOf N a < arcPeriod N a
+  width-below = omega (arith, zed, width-is, narrow N a s h .below, ofSub (working N a) (lower N a))
+
 module _ (N : Network) (t : List ℕ) (a : ℕ) (s : Sound N) (h : a < arcs N) where
   pub slack-below : slack N t a < arcPeriod N a
   unfolding slack

@@ -15,7 +15,7 @@ use Rattle.search.specs.Reduced.{nearIn, lastIn, shiftIn, runIn, gapIn, 
 
 -- ---- one arc
 
--- two entries of the row, and what is read of one after the other is written
+-- an entry beside the one that is written
 other : (row : List ℕ) (i j x : ℕ) → (j ≡ i → ⊥) → at (set row i x) j ≡ at row j
 other row i j x n = getD-set-other row i j x 0 n
 

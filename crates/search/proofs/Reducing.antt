@@ -10,7 +10,7 @@ use lib.ListN.{length}
 use lib.Dec.{leb}
 use borrow.Author.Tests.{lt-ltb, le-ltb, ltb-true, le-leb, lt-leb}
 use Rattle.numbers.specs.Remainder.{Cong}
-use Rattle.numbers.proofs.Integers.{up, dn, zed, ofSub, ofAbs, absℤ}
+use Rattle.numbers.proofs.Integers.{up, dn, ofSub, ofAbs, absℤ}
 use Rattle.numbers.proofs.Congruence.{cong, parts, cong-refl, cong-sym, cong-trans, cong-sub}
 use Rattle.numbers.proofs.Remainders.{below-same, remainder-below, remainder-cong}
 use Rattle.network.specs.Network.{Network, arcs, period, tail, head, lower}
@@ -19,7 +19,7 @@ use Rattle.network.specs.PublicRule.{arcPeriod, slackBy, slack, met, working, w
 use Rattle.network.specs.Table.{WellFormed}
 use Rattle.network.proofs.Arcs.{ArcOf, period-of}
 use Rattle.network.proofs.Sound.{Sound, sound, arc-period}
-use Rattle.network.proofs.Width.{size, narrow, met-width}
+use Rattle.network.proofs.Width.{width-is, width-below, met-width}
 use Rattle.search.specs.Looked.{Looked}
 use Rattle.search.specs.Looked.Looked.{found, nothing}
 use Rattle.search.specs.Reduced.{Reduced, reduced, past, metAt, metIn, Fitting, Barred, Sized, nearOf, lastOf, edgeOf, shiftOf, runOf, put, putArc, putArcs, BarsLent}
@@ -70,17 +70,7 @@ past-cong g edge from to h =
     cong-trans (cong-sym (remainder-cong ((pos to -ℤ pos from) -ℤ pos (slackBy g edge 0 1)) g h))
     (cong-sub (cong-refl g (pos to -ℤ pos from)) (of-rest g edge h))
 
--- the working upper bound is lower and its width, which is below the arc's period
 module _ {N : Network} {a : ℕ} (s : Sound N) (h : a < arcs N) where
-  width-is : up (working N a) + dn (lower N a) ≡ up (lower N a) + dn (working N a) + widthOf N a
-  unfolding widthOf
-  width-is =
-      let d = working N a -ℤ lower N a in
-      omega (arith, zed, ofSub (working N a) (lower N a), size d (omega (arith, zed, narrow N a s h .ordered, ofSub (working N a) (lower N a))))
-
-  width-below : widthOf N a < arcPeriod N a
-  width-below = omega (arith, zed, width-is, narrow N a s h .below, ofSub (working N a) (lower N a))
-
   some : 0 < arcPeriod N a
   some = arc-period N a s h .some
 
@@ -95,9 +85,9 @@ module _ {N : Network} {a : ℕ} (s : Sound N) (h : a < arcs N) where
         let e = (pos 1 -ℤ pos 0) -ℤ v in
         let p = past-cong g v from to some in
         let q = remainder-cong (d -ℤ l) g some in
-        later width-below (remainder-below (d -ℤ l) g some) (remainder-below (d -ℤ pos (slackBy g v 0 1)) g some)
+        later (width-below N a s h) (remainder-below (d -ℤ l) g some) (remainder-below (d -ℤ pos (slackBy g v 0 1)) g some)
         (cong (dn (p .times) + dn (q .times)) (up (p .times) + up (q .times))
-        (omega (arith, parts p, parts q, width-is, ofSub (pos to) (pos from), ofSub d l, ofSub d e, ofSub (pos 1) (pos 0), ofSub (pos 1 -ℤ pos 0) v, ofSub (pos 0) u)))
+        (omega (arith, parts p, parts q, width-is N a s h, ofSub (pos to) (pos from), ofSub d l, ofSub d e, ofSub (pos 1) (pos 0), ofSub (pos 1 -ℤ pos 0) v, ofSub (pos 0) u)))
 
     falling : leb (runOf N a) (past (arcPeriod N a) (slackBy (arcPeriod N a) (lower N a) 0 1) to from) ≡ leb (slackBy (arcPeriod N a) (lower N a) from to) (widthOf N a)
     falling =
@@ -108,7 +98,7 @@ module _ {N : Network} {a : ℕ} (s : Sound N) (h : a < arcs N) where
         let e = (pos 1 -ℤ pos 0) -ℤ l in
         let p = past-cong g l to from some in
         let q = remainder-cong (d -ℤ l) g some in
-        earlier width-below (remainder-below (d -ℤ l) g some) (remainder-below (b -ℤ pos (slackBy g l 0 1)) g some)
+        earlier (width-below N a s h) (remainder-below (d -ℤ l) g some) (remainder-below (b -ℤ pos (slackBy g l 0 1)) g some)
         (cong (dn (p .times) + up (q .times)) (up (p .times) + dn (q .times))
         (omega (arith, parts p, parts q, ofSub (pos to) (pos from), ofSub (pos from) (pos to), ofSub d l, ofSub b e, ofSub (pos 1) (pos 0), ofSub (pos 1 -ℤ pos 0) l)))
 
@@ -135,14 +125,14 @@ module _ {N : Network} {a : ℕ} (c : ArcOf N a) where
   found-width l h e = e ∙ (λ j. natAbs (h j -ℤ l j))
 
   pub width-fits : {g y : ℕ} {low high : ℤ} → g ≡ arcPeriod N a → low ≡ lower N a → high ≡ working N a → y ≡ natAbs (high -ℤ low) → y ≤ g - 1
-  width-fits q l h e = omega (arith, found-width l h e, width-below (sound N (c .well)) (c .arc))
+  width-fits q l h e = omega (arith, found-width l h e, width-below N a (sound N (c .well)) (c .arc))
 
   pub working-small : {high : ℤ} → high ≡ working N a → natAbs high ≤ 10800
   working-small h =
       let s = sound N (c .well) in
       let l = lower N a in
       rw h
-      (absℤ (working N a) (omega (arith, width-is s (c .arc), width-below s (c .arc), period-of c .most, ofAbs l, s .lower-small a (c .arc))))
+      (absℤ (working N a) (omega (arith, width-is N a s (c .arc), width-below N a s (c .arc), period-of c .most, ofAbs l, s .lower-small a (c .arc))))
 
   edge-forward : tail N a < head N a → pos 0 -ℤ working N a ≡ edgeOf N a
   edge-forward h = ap (λ (b : Bool). cond b (pos 0 -ℤ working N a) (lower N a)) (sym (lt-ltb (tail N a) (head N a) h))
