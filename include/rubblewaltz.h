@@ -3,12 +3,12 @@
  * networks as text.
  *
  * A network is six rows, each lent as pointer and length. The length of periods is the number of
- * events n, the common length of the other five the number of arcs m. Each pointer is to as many
- * entries as its length says. No row is kept after a call, and no row that is written may overlap
- * another.
+ * events n, the common length of the other five the number of arcs m. An arc's g is the greatest
+ * common divisor of the periods at its ends. Each pointer is to as many entries as its length says.
+ * No row is kept after a call, and no row that is written may overlap another.
  *
  * Each answer has a code, a place and a cost. Code 0 is success, and its place is 0. Under any
- * other code the cost is 0 and every row keeps its contents. Codes are tried in rising order:
+ * other code the cost is 0 and every row keeps its contents. Codes are tried in this order:
  *
  *    1  n is 0 or above 64
  *    2  a period is 0 or above 3600; place: the first such event
@@ -19,6 +19,9 @@
  *    6  lower is below -7200 or above 7200
  *    7  upper is below lower
  *    8  a weight is above 10000
+ *   18  an arc repeats an earlier one: equal tail, equal head, lower bounds that leave the same
+ *       remainder by g, and equal working width, the lesser of upper less lower and g less 1;
+ *       weights play no part; place: the second arc
  *    9  a row to be written is too short, or a row of times read is not exactly n long
  *   10  there is no feasible timetable
  *   11  a period differs from event 0's; place: the first such event
@@ -64,7 +67,9 @@ struct rubblewaltz_filled {
     size_t arcs;
 };
 
-/* Is the timetable right? Reads n times; writes nothing. Codes 0 with the cost, 1 to 9, 14, 15. */
+/*
+ * Is the timetable right? Reads n times; writes nothing. Codes 0 with the cost, 1 to 9, 14, 15, 18.
+ */
 struct rubblewaltz_answer rubblewaltz_check(
     const uint32_t *periods, size_t periods_length,
     const uint32_t *tail, size_t tail_length,
@@ -77,9 +82,8 @@ struct rubblewaltz_answer rubblewaltz_check(
 /*
  * The tensions, the turns and the cost of a timetable, whether its arcs are met or not. The turn of
  * an arc is the whole number z, from -14400 to 14400, with tension equal to head time less tail
- * time plus z times g, where g is the greatest common divisor of the periods at its ends. Reads n
- * times; writes tensions and turns 0 to m less 1, the rest of longer rows is kept. Codes 0 with the
- * cost, 1 to 9, 14.
+ * time plus z times g. Reads n times; writes tensions and turns 0 to m less 1, the rest of longer
+ * rows is kept. Codes 0 with the cost, 1 to 9, 14, 18.
  */
 struct rubblewaltz_answer rubblewaltz_measure(
     const uint32_t *periods, size_t periods_length,
@@ -94,7 +98,7 @@ struct rubblewaltz_answer rubblewaltz_measure(
 
 /*
  * The smallest feasible timetable. Writes times 0 to n less 1, and tensions and turns 0 to m less
- * 1, the rest of longer rows is kept. Codes 0 with the cost, 1 to 10. It has no time limit, and
+ * 1, the rest of longer rows is kept. Codes 0 with the cost, 1 to 10, 18. It has no time limit, and
  * needs 248 KiB of stack beside its caller's.
  */
 struct rubblewaltz_answer rubblewaltz_solve(
@@ -111,7 +115,7 @@ struct rubblewaltz_answer rubblewaltz_solve(
 /*
  * The timetable of these tensions, with the lowest event of each connected part at 0. Reads m
  * tensions; writes times 0 to n less 1, the rest of a longer row is kept. Codes 0 with the cost,
- * 1 to 9, 11 to 13.
+ * 1 to 9, 11 to 13, 18.
  */
 struct rubblewaltz_answer rubblewaltz_rebuild(
     const uint32_t *periods, size_t periods_length,

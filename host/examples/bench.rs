@@ -1,22 +1,27 @@
-//! How long each call takes on the networks of the folder networks, and how that compares with the
-//! same way of working in safe Rust. Run with `cargo run --release --example bench`.
+//! How long each call takes on the networks of the folder networks, and check on two with the most
+//! arcs, where code 18 has most and least to compare; and how that compares with the same way of
+//! working in safe Rust. Run with `cargo run --release --example bench`.
 
 use rubblewaltz_host::compare::{Case, TextCase, TextVersion, Version};
 use rubblewaltz_host::files::{self, Known};
 use rubblewaltz_host::timing::{announce, best, ratio};
 use rubblewaltz_host::{
-    baseline, check, measure, print, read, rebuild, reference, solve, Answer, Filled,
+    baseline, check, full, measure, print, read, rebuild, reference, solve, Answer, Filled,
 };
 use std::fmt::Debug;
 use std::hint::black_box;
 
 /// A call's name, the archive's version and the baseline's.
-const CALLS: [(&str, Version, Version); 4] = [
-    (
-        "check",
-        |network, times, _, _| check(network, times),
-        |network, times, _, _| baseline::check(network, times),
-    ),
+type Versions = (&'static str, Version, Version);
+
+const CHECK: Versions = (
+    "check",
+    |network, times, _, _| check(network, times),
+    |network, times, _, _| baseline::check(network, times),
+);
+
+const CALLS: [Versions; 4] = [
+    CHECK,
     (
         "measure",
         |network, times, tensions, turns| measure(network, times, tensions, turns),
@@ -48,10 +53,8 @@ fn main() {
     println!("network           call     code    archive us  safe Rust us   ratio");
     for known in files::answers() {
         let case = prepared(&known);
-        for (call, archive, baseline) in CALLS {
-            let (mut ours, mut theirs) = (case.clone(), case.clone());
-            let archive = || run(&mut ours, archive);
-            report(&known.name, call, archive, || run(&mut theirs, baseline));
+        for call in CALLS {
+            report_call(&known.name, &case, call);
         }
         for (call, archive, baseline) in TEXT_CALLS {
             let case = prepared_text(&known.name, call);
@@ -62,6 +65,22 @@ fn main() {
             });
         }
     }
+    for (name, rows) in [
+        ("256 parallel", full::parallel()),
+        ("256 apart", full::apart()),
+    ] {
+        let case = Case {
+            times: vec![0; rows.periods.len()],
+            ..Case::unwritten(rows)
+        };
+        report_call(name, &case, CHECK);
+    }
+}
+
+fn report_call(network: &str, case: &Case, (call, archive, baseline): Versions) {
+    let (mut ours, mut theirs) = (case.clone(), case.clone());
+    let archive = || run(&mut ours, archive);
+    report(network, call, archive, || run(&mut theirs, baseline));
 }
 
 /// A line of the table. The first calls must answer the same.

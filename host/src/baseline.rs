@@ -1,11 +1,13 @@
 //! The archive's way of working in safe Rust, for the benchmark to measure it against.
 
+mod repeat;
 mod search;
 mod text;
 
 pub use text::{print, read};
 
 use crate::network::{Answer, Network};
+use repeat::first_repeat;
 use search::smallest;
 use std::cmp::Ordering;
 
@@ -83,7 +85,7 @@ fn refusal(network: &Network) -> Option<Answer> {
             return Some(Answer::refusal(code, arc));
         }
     }
-    None
+    first_repeat(network).map(|arc| Answer::refusal(18, arc))
 }
 
 fn late_time(network: &Network, times: &[u32]) -> Option<Answer> {

@@ -160,15 +160,15 @@ fn call_on_timetable(
     }
 }
 
-/// Is the timetable right? Codes 1 to 9, 14, 15, or 0 with the cost.
+/// Is the timetable right? Codes 1 to 9, 14, 15, 18, or 0 with the cost.
 pub fn check(network: &Network, times: &[u32]) -> Answer {
     let reply = call_on_timetable(CHECK, network, times, &[], &[]);
     assert_eq!(reply.times, times, "check reads the times");
     reply.answer
 }
 
-/// The timetable's tensions, turns and cost. Codes 1 to 9, 14, or 0 with tensions and turns 0..m
-/// written.
+/// The timetable's tensions, turns and cost. Codes 1 to 9, 14, 18, or 0 with tensions and turns
+/// 0..m written.
 pub fn measure(
     network: &Network,
     times: &[u32],
@@ -182,8 +182,8 @@ pub fn measure(
     reply.answer
 }
 
-/// The smallest feasible timetable. Codes 1 to 10, or 0 with times 0..n, tensions and turns 0..m
-/// written.
+/// The smallest feasible timetable. Codes 1 to 10, 18, or 0 with times 0..n, tensions and turns
+/// 0..m written.
 pub fn solve(
     network: &Network,
     times: &mut [u32],
@@ -197,7 +197,7 @@ pub fn solve(
     reply.answer
 }
 
-/// The timetable of these tensions. Codes 1 to 9, 11 to 13, or 0 with times 0..n written.
+/// The timetable of these tensions. Codes 1 to 9, 11 to 13, 18, or 0 with times 0..n written.
 pub fn rebuild(network: &Network, tensions: &[i32], times: &mut [u32]) -> Answer {
     let reply = call_on_timetable(REBUILD, network, times, tensions, &[]);
     assert_eq!(reply.tensions, tensions, "rebuild reads the tensions");

@@ -29,6 +29,7 @@ mod bridge;
 pub mod c_program;
 pub mod compare;
 pub mod files;
+pub mod full;
 mod network;
 pub mod random;
 #[cfg(not(bridged))]

@@ -156,6 +156,14 @@ impl Rows {
         self.weight.insert(place, arc.weight);
     }
 
+    pub fn remove(&mut self, place: usize) {
+        self.tail.remove(place);
+        self.head.remove(place);
+        self.lower.remove(place);
+        self.upper.remove(place);
+        self.weight.remove(place);
+    }
+
     /// Cuts the rows to `n` events and `m` arcs, or fills them up with zeros.
     pub fn resize(&mut self, n: usize, m: usize) {
         self.periods.resize(n, 0);

@@ -143,14 +143,14 @@ macro_rules! lend {
     };
 }
 
-/// Is the timetable right? Codes 1 to 9, 14, 15, or 0 with the cost.
+/// Is the timetable right? Codes 1 to 9, 14, 15, 18, or 0 with the cost.
 pub fn check(network: &Network, times: &[u32]) -> Answer {
     // SAFETY: each pointer goes with the length of its own slice, and the call keeps none of them.
     unsafe { lend!(rubblewaltz_check, network, times.as_ptr(), times.len()) }
 }
 
-/// The timetable's tensions, turns and cost. Codes 1 to 9, 14, or 0 with tensions and turns 0..m
-/// written.
+/// The timetable's tensions, turns and cost. Codes 1 to 9, 14, 18, or 0 with tensions and turns
+/// 0..m written.
 pub fn measure(
     network: &Network,
     times: &[u32],
@@ -172,8 +172,8 @@ pub fn measure(
     }
 }
 
-/// The smallest feasible timetable. Codes 1 to 10, or 0 with times 0..n, tensions and turns 0..m
-/// written.
+/// The smallest feasible timetable. Codes 1 to 10, 18, or 0 with times 0..n, tensions and turns
+/// 0..m written.
 pub fn solve(
     network: &Network,
     times: &mut [u32],
@@ -195,7 +195,7 @@ pub fn solve(
     }
 }
 
-/// The timetable of these tensions. Codes 1 to 9, 11 to 13, or 0 with times 0..n written.
+/// The timetable of these tensions. Codes 1 to 9, 11 to 13, 18, or 0 with times 0..n written.
 pub fn rebuild(network: &Network, tensions: &[i32], times: &mut [u32]) -> Answer {
     // SAFETY: as in `measure`.
     unsafe {

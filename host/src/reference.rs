@@ -14,6 +14,9 @@ mod text;
 pub use check::check;
 pub use measure::measure;
 pub use rebuild::{rebuild, rebuild_by_trying};
-pub use rule::{arc_period, common_divisor, met, remainder, slack, tension, turn, working_upper};
+pub use rule::{
+    arc_period, common_divisor, met, remainder, repeats, repeats_earlier, slack, tension, turn,
+    working_upper,
+};
 pub use solve::{finishes_within, smallest, smallest_by_skipping, solve, solve_by_skipping};
 pub use text::{network_of, print, read, texts_of};

@@ -4,14 +4,14 @@ use crate::network::Answer;
 
 pub struct Tally {
     name: String,
-    counts: [u64; 18],
+    counts: [u64; 19],
 }
 
 impl Tally {
     pub fn new(name: impl Into<String>) -> Self {
         Tally {
             name: name.into(),
-            counts: [0; 18],
+            counts: [0; 19],
         }
     }
 

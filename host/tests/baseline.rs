@@ -55,12 +55,13 @@ fn with_network(own: &[Damage]) -> Vec<Damage> {
 #[test]
 fn damaged_cases() {
     let check = with_network(&[READ_TIMES, LATE_TIME, UNMET_ARC]);
-    let codes = [1, 2, 3, 4, 5, 6, 7, 8, 9, 14, 15];
+    let codes = [1, 2, 3, 4, 5, 6, 7, 8, 9, 14, 15, 18];
     trials::bunches(&BASELINE_CHECK, &check, linked, 10_000).require(100, &codes);
     let measure = with_network(&[READ_TIMES, SHORT_TENSIONS, SHORT_TURNS, LATE_TIME]);
-    trials::bunches(&BASELINE_MEASURE, &measure, linked, 10_000).require(100, &codes[..10]);
+    let codes = [1, 2, 3, 4, 5, 6, 7, 8, 9, 14, 18];
+    trials::bunches(&BASELINE_MEASURE, &measure, linked, 10_000).require(100, &codes);
     let solve = with_network(&[SHORT_TIMES, SHORT_TENSIONS, SHORT_TURNS, INFEASIBLE]);
-    let codes = [1, 2, 3, 4, 5, 6, 7, 8, 9, 10];
+    let codes = [1, 2, 3, 4, 5, 6, 7, 8, 9, 10, 18];
     trials::bunches(&BASELINE_SOLVE, &solve, solvable, 10_000).require(100, &codes);
     let rebuild = [
         TENSION_ROW,
@@ -69,7 +70,7 @@ fn damaged_cases() {
         TENSION_OUTSIDE,
         OPEN_LOOP,
     ];
-    let codes = [1, 2, 3, 4, 5, 6, 7, 8, 9, 11, 12, 13];
+    let codes = [1, 2, 3, 4, 5, 6, 7, 8, 9, 11, 12, 13, 18];
     let rebuild = with_network(&rebuild);
     trials::bunches(&BASELINE_REBUILD, &rebuild, knotted, 10_000).require(100, &codes);
 }

@@ -6,7 +6,7 @@ use rubblewaltz_host::random::{heavy, linked, planted, unplanted, Random};
 use rubblewaltz_host::tally::Tally;
 use rubblewaltz_host::trials;
 
-const CODES: [u32; 11] = [1, 2, 3, 4, 5, 6, 7, 8, 9, 14, 15];
+const CODES: [u32; 12] = [1, 2, 3, 4, 5, 6, 7, 8, 9, 14, 15, 18];
 
 fn damages() -> Vec<Damage> {
     [&NETWORK[..], &[READ_TIMES, LATE_TIME, UNMET_ARC]].concat()

@@ -8,7 +8,7 @@ use rubblewaltz_host::random::{heavy, linked, planted, unplanted, Random};
 use rubblewaltz_host::tally::Tally;
 use rubblewaltz_host::trials;
 
-const CODES: [u32; 10] = [1, 2, 3, 4, 5, 6, 7, 8, 9, 14];
+const CODES: [u32; 11] = [1, 2, 3, 4, 5, 6, 7, 8, 9, 14, 18];
 
 fn damages() -> Vec<Damage> {
     let own = [READ_TIMES, SHORT_TENSIONS, SHORT_TURNS, LATE_TIME];

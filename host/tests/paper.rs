@@ -2,7 +2,7 @@
 //! knows no turns: they are worked out by hand from the request.
 
 use rubblewaltz_host::compare::{Call, Case, CHECK, MEASURE, REBUILD, SOLVE_BY_SKIPPING};
-use rubblewaltz_host::{Answer, Arc, Rows};
+use rubblewaltz_host::{full, Answer, Arc, Rows};
 
 /// A network with a timetable, its tensions, its turns and its cost.
 struct Timetable {
@@ -71,7 +71,7 @@ fn smallest() -> Vec<Timetable> {
     let p11 = one_arc([60, 60], (0, 1), (0, 59));
     let wide = one_arc([60, 60], (0, 1), (0, 60));
     let any = one_arc([60, 20], (0, 1), (0, 59));
-    let many = Rows::new(&[60, 60], &[arc(0, 1, 0, 59, 1); 256]);
+    let many = full::parallel();
     let low = one_arc([60, 60], (0, 1), (-7200, -7200));
     vec![
         timetable("P1", a, &[0, 10, 30], &[10, 20, 30], &[0, 0, 1], 4),
@@ -84,7 +84,7 @@ fn smallest() -> Vec<Timetable> {
         timetable("P11, [0,60]", wide, &[0, 0], &[0], &[0], 0),
         timetable("any time will do", any, &[0, 0], &[0], &[0], 0),
         timetable("n 1, m 0", Rows::new(&[60], &[]), &[0], &[], &[], 0),
-        timetable("m 256", many, &[0, 0], &[0; 256], &[0; 256], 0),
+        timetable("m 256", many, &[0, 0], &[0; 256], &[0; 256], 32_640),
         timetable("lower -7,200", low, &[0, 0], &[-7200], &[-120], 0),
     ]
 }
@@ -103,6 +103,7 @@ fn rebuilt() -> Vec<Timetable> {
 fn refused() -> Vec<(&'static str, Rows, u32, usize)> {
     let back = one_arc([60, 60], (0, 1), (0, -1));
     let twice = one_arc([60, 0], (0, 0), (0, 0));
+    let equal = Rows::new(&[60, 60], &[arc(0, 1, 0, 59, 1); 256]);
     let many = Rows::new(&[60, 60], &[arc(0, 1, 0, 59, 1); 257]);
     let low = one_arc([60, 60], (0, 1), (-7201, -7201));
     vec![
@@ -110,6 +111,7 @@ fn refused() -> Vec<(&'static str, Rows, u32, usize)> {
         ("m 257", many, 3, 0),
         ("lower -7,201", low, 6, 0),
         ("upper below lower", back, 7, 0),
+        ("m 256, all equal", equal, 18, 1),
     ]
 }
 

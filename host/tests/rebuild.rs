@@ -10,7 +10,7 @@ use rubblewaltz_host::random::{
 use rubblewaltz_host::tally::Tally;
 use rubblewaltz_host::{measure, trials, Answer};
 
-const CODES: [u32; 12] = [1, 2, 3, 4, 5, 6, 7, 8, 9, 11, 12, 13];
+const CODES: [u32; 13] = [1, 2, 3, 4, 5, 6, 7, 8, 9, 11, 12, 13, 18];
 
 fn damages() -> Vec<Damage> {
     let own = [

@@ -64,16 +64,17 @@ fn tension_of_30_belongs_to_minutes_50_and_20() {
     assert_solved(rows, &[0, 50, 20], &[(50, 0), (30, 1)]);
 }
 
-/// The same two minutes in both directions, and tensions below 0.
+/// The same two minutes in both directions, and tensions below 0. No two arcs are as wide, or they
+/// would repeat each other.
 #[test]
 fn turns_of_either_sign() {
     let arcs = [
         (0, 1, 50, 50),
         (2, 1, 30, 30),
-        (2, 1, -30, -30),
+        (2, 1, -30, -29),
         (1, 2, -30, -30),
-        (2, 1, 90, 90),
-        (0, 1, -10, -10),
+        (2, 1, 90, 92),
+        (0, 1, -10, -9),
     ];
     let known = [(50, 0), (30, 0), (-30, -1), (-30, 0), (90, 1), (-10, -1)];
     assert_solved(network(&[60; 3], &arcs), &[0, 50, 20], &known);

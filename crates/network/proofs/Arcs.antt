@@ -1,4 +1,4 @@
--- The laws of one arc of a well-formed network, of the cost and of a row that is written in order. Assumes nothing.
+-- The laws of one arc of a sound network, of the cost and of a row that is written in order. Assumes nothing.
 use mathlib.Core.Path.{_≡_, refl, sym, ap, _∙_}
 use mathlib.Core.Logic.{_⊎_, inl, inr}
 use mathlib.Core.List.{List}
@@ -18,11 +18,10 @@ use Rattle.numbers.proofs.Bits.{of}
 use Rattle.numbers.specs.Row.{at}
 use Rattle.network.specs.Network.{Network, arcs, tail, head, lower, upper, weight}
 use Rattle.network.specs.PublicRule.{arcPeriod, slackBy, slack, tension, workingBy, working, widthOf, arcCost, costTo}
-use Rattle.network.specs.Table.{WellFormed}
 use Rattle.network.specs.Rows.{written, ArcRows, short, shortFor}
-use Rattle.network.specs.Trial.{AsksPeriod}
+use Rattle.network.specs.Trial.{Inside, ArcOf, AsksPeriod}
 use Rattle.network.specs.Inner.{Span, TimedArc, TimedEnd}
-use Rattle.network.proofs.Sound.{Inside, Sound, sound, arc-period, neither}
+use Rattle.network.proofs.Sound.{sound, arc-period, neither}
 use Rattle.network.proofs.Width.{narrow, width-below, slack-below}
 
 -- a signed result of a call is passed on as it is
@@ -38,40 +37,36 @@ beyond-kept {z} from to h f e = of {z = z} (record { sfits = h }) .is ∙ e ∙ 
 pub product-small : {w s : ℕ} → w ≤ 10000 → s < 3600 → w * s ≤ 36000000
 product-small h k = mul-le-mul {m₂ = 3600} h (omega arith)
 
--- ---- an arc of a well-formed network
-
-pub record ArcOf (N : Network) (a : ℕ) : Type 0 where
-  pub well : WellFormed N
-  pub arc : a < arcs N
+-- ---- an arc
 
 module _ {N : Network} {a : ℕ} (c : ArcOf N a) where
-  has : Sound N
-  has = sound N (c .well)
-
   pub arc-small : a < 256
-  arc-small = omega (arith, c .arc, has .even .few-arcs)
+  arc-small = omega (arith, c .arc, c .sound .even .few-arcs)
 
   pub asks-period : AsksPeriod N a
-  asks-period = record { arc = c .arc; heads-long = has .even .heads-long; ends = has .ends a (c .arc) }
+  asks-period = record { arc = c .arc; heads-long = c .sound .even .heads-long; ends = c .sound .ends a (c .arc) }
+
+  pub in-heads : a < length (N .heads)
+  in-heads = omega (arith, c .arc, c .sound .even .heads-long)
 
   pub in-lowers : a < length (N .lowers)
-  in-lowers = omega (arith, c .arc, has .even .lowers-long)
+  in-lowers = omega (arith, c .arc, c .sound .even .lowers-long)
 
   pub in-uppers : a < length (N .uppers)
-  in-uppers = omega (arith, c .arc, has .even .uppers-long)
+  in-uppers = omega (arith, c .arc, c .sound .even .uppers-long)
 
   pub in-weights : a < length (N .weights)
-  in-weights = omega (arith, c .arc, has .even .weights-long)
+  in-weights = omega (arith, c .arc, c .sound .even .weights-long)
 
   pub period-of : Inside 1 3600 (arcPeriod N a)
-  period-of = arc-period N a has (c .arc)
+  period-of = arc-period N a (c .sound) (c .arc)
 
   pub weight-of : weight N a ≤ 10000
-  weight-of = has .weights a (c .arc) .most
+  weight-of = c .sound .weights a (c .arc) .most
 
   -- lower, as a call handed it on
   pub lower-kept : {z : ℤ} → z ≡ lower N a → natAbs z ≤ 7200
-  lower-kept e = rw e (has .lower-small a (c .arc))
+  lower-kept e = rw e (c .sound .lower-small a (c .arc))
 
   -- the working upper bound, from an arc period and bounds that calls handed on
   pub asks-working : {g : ℕ} {low : ℤ} → g ≡ arcPeriod N a → low ≡ lower N a → (0 < g) × (g ≤ 3600) × (natAbs low ≤ 7200)
@@ -85,12 +80,12 @@ module _ {N : Network} {a : ℕ} (c : ArcOf N a) where
   unfolding widthOf
   span e f =
       rw (e, f)
-      (record { ordered = narrow N a has (c .arc) .ordered; small = omega (arith, width-below N a has (c .arc), period-of .most) })
+      (record { ordered = narrow N a (c .sound) (c .arc) .ordered; small = omega (arith, width-below N a (c .sound) (c .arc), period-of .most) })
 
 -- ---- and with times at its ends
 
 pub arc-of : {N : Network} {t : List ℕ} {a : ℕ} → TimedArc N t a → ArcOf N a
-arc-of c = record { well = c .timed .well; arc = c .arc }
+arc-of {N} c = record { sound = sound N (c .timed .well); arc = c .arc }
 
 module _ {N : Network} {t : List ℕ} {a : ℕ} (c : TimedArc N t a) where
   pub tail-end : TimedEnd (N .tails) t a
@@ -103,7 +98,7 @@ module _ {N : Network} {t : List ℕ} {a : ℕ} (c : TimedArc N t a) where
   }
 
   slack-small : slack N t a < 3600
-  slack-small = omega (arith, period-of (arc-of c) .most, slack-below N t a (has (arc-of c)) (c .arc))
+  slack-small = omega (arith, period-of (arc-of c) .most, slack-below N t a (arc-of c .sound) (c .arc))
 
   pub slack-kept : {s : ℕ} → s ≡ slack N t a → s < 3600
   slack-kept e = rw e slack-small

@@ -7,3 +7,5 @@ pub mod Arcs
 pub mod Width
 pub mod Times
 pub mod Turns
+pub mod Repeats
+pub mod Links

@@ -1,16 +1,17 @@
 -- From what a scan found to the answer of a table, one law for each way, and rows and counts after it. Assumes nothing.
 use mathlib.Core.Path.{_≡_, refl, sym, ap, _∙_}
 use mathlib.Core.List.{List, [], _∷_, _++_}
-use mathlib.Core.Bool.{Bool, true, false, cond, _&&_}
-use Prim.Native.Nat.{ℕ, _≤_, _<_}
+use mathlib.Core.Bool.{Bool, true, false, cond, not, _&&_, _||_}
+use Prim.Native.Nat.{ℕ, zero, suc, _≤_, _<_}
 use native.Mathlib.Omega.{arith}
-use borrow.Author.Tests.{lt-ltb, ltb-true, ltb-false, eq-eqb, ne-eqb}
+use borrow.Author.Tests.{lt-ltb, ltb-true, ltb-false, eq-eqb, ne-eqb, eqb-true, eqb-false, not-true}
+use lib.ListN.{take, getD}
 use lib.Dec.{ltb, eqb}
 use Rattle.network.specs.declared.Answer.{Answer}
 use Rattle.network.specs.declared.Filled.{Filled}
 use Rattle.network.specs.First.{First}
 use Rattle.network.specs.Refusals.{Refusal, answer, once, placeOf, answerOf, after, filled, filledAs}
-use Rattle.network.specs.Trial.{named}
+use Rattle.network.specs.Trial.{never, named}
 use Rattle.network.proofs.Scans.{first-is, first-one, true-false}
 
 -- a line applies nowhere
@@ -55,6 +56,12 @@ pub front : (rs ss : List Refusal) → AllClear (rs ++ ss) → AllClear rs
 front [] ss c = none
 front (r ∷ rs) ss (more k c) = more k (front rs ss c)
 
+-- the first k lines, each by its place
+pub all-taken : (k : ℕ) (rs : List Refusal) → ((j : ℕ) → j < k → Clear (getD rs j never)) → AllClear (take k rs)
+all-taken zero rs c = none
+all-taken (suc k) [] c = none
+all-taken (suc k) (r ∷ rs) c = more (c 0 (omega arith)) (all-taken k rs (λ j h. c (suc j) (omega arith)))
+
 pub goes-on : {rs : List Refusal} (ss : List Refusal) (x : ℕ) → AllClear rs → answerOf (rs ++ ss) x ≡ answerOf ss x
 goes-on ss x none = refl
 goes-on ss x (more {rs = rs} c cs) = passed (rs ++ ss) x c ∙ goes-on ss x cs
@@ -89,11 +96,11 @@ unfoldable pub coded : List Refusal → Bool
 coded [] = true
 coded (r ∷ rs) = ltb 0 (r .code) && coded rs
 
-and-left : (a b : Bool) → a && b ≡ true → a ≡ true
+pub and-left : (a b : Bool) → a && b ≡ true → a ≡ true
 and-left true b e = refl
 and-left false b e = e
 
-and-right : (a b : Bool) → a && b ≡ true → b ≡ true
+pub and-right : (a b : Bool) → a && b ≡ true → b ≡ true
 and-right true b e = e
 and-right false b e = absurd (true-false e refl)
 
@@ -115,6 +122,48 @@ clear c (more {r = r} {rs = rs} k ks) = go (eqb (r .code) c) (clear c ks)
     go : (b : Bool) → Clear (named c rs) → Clear (cond b r (named c rs))
     go true h = k
     go false h = h
+
+-- ---- a code read back, in a table where no code stands twice: the line of that code applies, first at the answer's place
+
+unfoldable pub listed : ℕ → List Refusal → Bool
+listed c [] = false
+listed c (r ∷ rs) = eqb (r .code) c || listed c rs
+
+unfoldable pub apart : List Refusal → Bool
+apart [] = true
+apart (r ∷ rs) = not (listed (r .code) rs) && apart rs
+
+told : (rs : List Refusal) (x : ℕ) {c : ℕ} → answerOf rs x .code ≡ c → (c ≡ 0 → ⊥) → listed c rs ≡ true
+unfolding answerOf listed
+told [] x e n = absurd (n (sym e))
+told (r ∷ rs) x {c} e n = go (ltb (placeOf r) (r .places)) (eqb (r .code) c) refl e (told rs x {c = c})
+  where
+    go : (b q : Bool) → eqb (r .code) c ≡ q → cond b (answer (r .code) (placeOf r) 0) (answerOf rs x) .code ≡ c
+        → (answerOf rs x .code ≡ c → (c ≡ 0 → ⊥) → listed c rs ≡ true) → q || listed c rs ≡ true
+    go b true f e t = refl
+    go true false f e t = absurd (eqb-false (r .code) c f e)
+    go false false f e t = t e n
+
+pub record Said (r : Refusal) (p : ℕ) : Type 0 where
+  pub found : Found r p
+  pub within : p < r .places
+
+pub said : (rs : List Refusal) (x : ℕ) {c : ℕ} → apart rs ≡ true → answerOf rs x .code ≡ c → (c ≡ 0 → ⊥) → Said (named c rs) (answerOf rs x .place)
+unfolding answerOf named apart
+said [] x k e n = absurd (n (sym e))
+said (r ∷ rs) x {c} k e n =
+    go (ltb (placeOf r) (r .places)) (eqb (r .code) c) refl refl e (said rs x {c = c} (and-right (not (listed (r .code) rs)) (apart rs) k))
+  where
+    once-only : r .code ≡ c → listed c rs ≡ false
+    once-only q = ap (λ (d : ℕ). listed d rs) (sym q) ∙ not-true _ (and-left (not (listed (r .code) rs)) (apart rs) k)
+
+    go : (b q : Bool) → ltb (placeOf r) (r .places) ≡ b → eqb (r .code) c ≡ q → cond b (answer (r .code) (placeOf r) 0) (answerOf rs x) .code ≡ c
+        → (answerOf rs x .code ≡ c → (c ≡ 0 → ⊥) → Said (named c rs) (answerOf rs x .place))
+        → Said (cond q r (named c rs)) (cond b (answer (r .code) (placeOf r) 0) (answerOf rs x) .place)
+    go true true h f e s = record { found = first-is (r .applies) (r .places); within = ltb-true (placeOf r) (r .places) h }
+    go true false h f e s = absurd (eqb-false (r .code) c f e)
+    go false true h f e s = absurd (true-false (told rs x e n) (once-only (eqb-true (r .code) c f)))
+    go false false h f e s = s e n
 
 -- ---- the front of a table judged by a function: its refusal r is the whole's
 

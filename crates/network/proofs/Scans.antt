@@ -1,5 +1,5 @@
 -- A scan that is left at the first place where a test says yes: its turns, its ways out, and that there is one such place. Assumes nothing.
-use mathlib.Core.Path.{_≡_, refl}
+use mathlib.Core.Path.{_≡_, refl, sym}
 use mathlib.Core.Logic.{_⊎_, inl, inr}
 use mathlib.Core.Bool.{Bool, true, false, cond}
 use Prim.Native.Nat.{ℕ, zero, suc, _+_, _≤_, _<_}
@@ -33,6 +33,12 @@ first-miss p q = record { within = omega arith; before = p .each; found = λ l. 
 
 pub true-false : {b : Bool} → b ≡ true → b ≡ false → ⊥
 true-false e f = let z : _≡_ {A = ℕ} 0 1 = cc in omega arith
+
+-- two tests of which each says yes where the other does
+pub same-test : (p q : Bool) → (p ≡ true → q ≡ true) → (q ≡ true → p ≡ true) → p ≡ q
+same-test true q f g = sym (f refl)
+same-test false true f g = g refl
+same-test false false f g = refl
 
 -- there is one such place, and `first` computes it
 pub first-one : {test : ℕ → Bool} {n k l : ℕ} → First test n k → First test n l → k ≡ l

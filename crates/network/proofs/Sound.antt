@@ -1,4 +1,4 @@
--- What a well-formed network has. Assumes nothing.
+-- What a well-formed network has, and what codes 1 to 8 alone leave. Assumes nothing.
 use mathlib.Core.Path.{_≡_, refl, sym, ap, _∙_, subst}
 use mathlib.Core.Bool.{Bool, true, false, _||_}
 use Prim.Native.Nat.{ℕ, _≤_, _<_}
@@ -6,7 +6,7 @@ use native.Mathlib.Omega.{arith}
 use borrow.Author.Tests.{ltb-false, leb-false, eqb-true, eqb-false, not-false}
 use lib.IntN.{ℤ, pos, negsuc, natAbs}
 use lib.Signed.{ltZ, _≤ℤ_}
-use lib.ListN.{length}
+use lib.ListN.{length, take, drop}
 use lib.Dec.{ltb, leb, eqb}
 use Rattle.numbers.proofs.Integers.{absℤ, leℤ, ofLe, ltZ-false}
 use Rattle.numbers.proofs.Divisors.{gcd-pos, gcd-le}
@@ -14,15 +14,11 @@ use Rattle.network.specs.declared.Answer.{Answer}
 use Rattle.network.specs.Network.{Network, events, arcs, period, tail, head, lower, upper, weight}
 use Rattle.network.specs.PublicRule.{arcPeriod}
 use Rattle.network.specs.Table.{outside, differ, uneven, strays, outsideℤ, refusals, refusalsWith, refusalOf, WellFormed}
-use Rattle.network.specs.Trial.{Even, Ends, named}
+use Rattle.network.specs.Trial.{Even, Ends, Inside, Sound, named}
 use Rattle.network.proofs.Scans.{true-false}
-use Rattle.network.proofs.Refusing.{Clear, AllClear, coded, clear-all, quiet, clear}
+use Rattle.network.proofs.Refusing.{AllClear, front, coded, clear-all, quiet, clear}
 
 -- ---- what each line leaves where it does not apply
-
-pub record Inside (least greatest x : ℕ) : Type 0 where
-  pub some : least ≤ x
-  pub most : x ≤ greatest
 
 -- both sides of `||` say no
 pub neither : (a b : Bool) → a || b ≡ false → (a ≡ false) × (b ≡ false)
@@ -89,16 +85,6 @@ ordered low high e = leℤ low high (ltZ-false high low e)
 
 -- ---- the whole
 
-pub record Sound (N : Network) : Type 0 where
-  pub event-count : Inside 1 64 (events N)
-  pub periods : (v : ℕ) → v < events N → Inside 1 3600 (period N v)
-  pub even : Even N
-  pub ends : (a : ℕ) → a < arcs N → Ends N a
-  pub no-loop : (a : ℕ) → a < arcs N → tail N a ≡ head N a → ⊥
-  pub lower-small : (a : ℕ) → a < arcs N → natAbs (lower N a) ≤ 7200
-  pub ordered : (a : ℕ) → a < arcs N → lower N a ≤ℤ upper N a
-  pub weights : (a : ℕ) → a < arcs N → Inside 0 10000 (weight N a)
-
 -- no line applies anywhere
 pub clear-with : (N : Network) (further : ℕ) {r : Answer} → r ≡ refusalOf N further → r .code ≡ 0 → AllClear (refusalsWith N further)
 unfolding coded refusalsWith
@@ -122,22 +108,25 @@ well-with N further c = well-formed N (subst (λ (k : ℕ). AllClear (refusalsWi
 pub well-of : {N : Network} {r : Answer} → r ≡ refusalOf N (arcs N) → r .code ≡ 0 → WellFormed N
 well-of e z = record { none = sym (ap (λ (a : Answer). a .code) e) ∙ z }
 
-pub sound : (N : Network) → WellFormed N → Sound N
+-- from the lines before 18
+pub sound-of : (N : Network) (further : ℕ) → AllClear (take 8 (refusalsWith N further)) → Sound N
 unfolding named refusalsWith
-sound N w =
-    let at : (c : ℕ) → Clear (named c (refusals N)) = λ c. clear c (all-clear N w) in
-    record {
-      event-count = inside 1 64 (events N) (at 1 .nowhere 0 (omega arith));
-      periods = λ v h. inside 1 3600 (period N v) (at 2 .nowhere v h);
-      even = even-of N (arcs N) (at 3 .nowhere 0 (omega arith)) .even;
-      ends = λ a h. ends-of N a (at 4 .nowhere a h);
-      no-loop = λ a h. eqb-false (tail N a) (head N a) (at 5 .nowhere a h);
-      lower-small = λ a h. small (lower N a) (at 6 .nowhere a h);
-      ordered = λ a h. ordered (lower N a) (upper N a) (at 7 .nowhere a h);
-      weights = λ a h. inside 0 10000 (weight N a) (at 8 .nowhere a h);
-    }
+sound-of N further c = record {
+  event-count = inside 1 64 (events N) (clear 1 c .nowhere 0 (omega arith));
+  periods = λ v h. inside 1 3600 (period N v) (clear 2 c .nowhere v h);
+  even = even-of N further (clear 3 c .nowhere 0 (omega arith)) .even;
+  ends = λ a h. ends-of N a (clear 4 c .nowhere a h);
+  no-loop = λ a h. eqb-false (tail N a) (head N a) (clear 5 c .nowhere a h);
+  lower-small = λ a h. small (lower N a) (clear 6 c .nowhere a h);
+  ordered = λ a h. ordered (lower N a) (upper N a) (clear 7 c .nowhere a h);
+  weights = λ a h. inside 0 10000 (weight N a) (clear 8 c .nowhere a h);
+}
 
--- the arc period of a well-formed network
+pub sound : (N : Network) → WellFormed N → Sound N
+unfolding refusalsWith
+sound N w = sound-of N (arcs N) (front (take 8 (refusals N)) (drop 8 (refusals N)) (all-clear N w))
+
+-- the arc period
 pub arc-period : (N : Network) (a : ℕ) → Sound N → a < arcs N → Inside 1 3600 (arcPeriod N a)
 unfolding arcPeriod
 arc-period N a s h =

@@ -10,7 +10,7 @@ use Rattle.numbers.specs.Row.{at}
 use Rattle.network.specs.Network.{Network, events, period}
 use Rattle.network.specs.PublicRule.{allowed, Timetable}
 use Rattle.network.specs.Rows.{late}
-use Rattle.network.proofs.Sound.{Sound}
+use Rattle.network.specs.Trial.{Sound}
 
 pub on-time : {N : Network} {t : List ℕ} → length t ≡ events N → ((v : ℕ) → v < events N → late (N .periods) t v ≡ false) → Timetable N t
 unfolding allowed

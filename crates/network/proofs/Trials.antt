@@ -13,11 +13,12 @@ use lib.Dec.{eqb}
 use lib.Seq.{drop-cons}
 use Rattle.network.specs.Network.{Network, events, arcs}
 use Rattle.numbers.specs.Row.{at}
+use Rattle.network.specs.First.{First}
 use Rattle.network.specs.Refusals.{Refusal, answer, answerOf}
-use Rattle.network.specs.Table.{refusalsWith, refusalOf}
-use Rattle.network.specs.Trial.{never, named, line, order, placesOf, Even, Asks, AsksAt, Scanned}
-use Rattle.network.proofs.Refusing.{Clear, clear-of, refused, passed}
-use Rattle.network.proofs.Sound.{inside, even-of}
+use Rattle.network.specs.Table.{repeated, refusalsWith, refusalOf}
+use Rattle.network.specs.Trial.{never, named, line, order, placesOf, Even, Sound, Asks, AsksAt, Scanned}
+use Rattle.network.proofs.Refusing.{Clear, clear-of, refused, passed, all-taken}
+use Rattle.network.proofs.Sound.{inside, even-of, sound-of}
 
 -- a place of a code above 3 is an arc, in each of the rows
 pub record ArcAt (N : Network) (i : ℕ) : Type 0 where
@@ -63,19 +64,24 @@ module _ (N : Network) (f : ℕ) where
 
   -- a code that no line has
   pub no-code : (code i : ℕ)
-      → ((code ≡ 1 → ⊥) × (code ≡ 2 → ⊥) × (code ≡ 3 → ⊥) × (code ≡ 4 → ⊥) × (code ≡ 5 → ⊥) × (code ≡ 6 → ⊥) × (code ≡ 7 → ⊥) × (code ≡ 8 → ⊥))
+      → ((code ≡ 1 → ⊥) × (code ≡ 2 → ⊥) × (code ≡ 3 → ⊥) × (code ≡ 4 → ⊥) × (code ≡ 5 → ⊥) × (code ≡ 6 → ⊥) × (code ≡ 7 → ⊥) × (code ≡ 8 → ⊥) × (code ≡ 18 → ⊥))
       → false ≡ line N f code .applies i
   unfolding named refusalsWith
   no-code code i n =
-      simp (other 1 (n .0), other 2 (n .1), other 3 (n .2), other 4 (n .3), other 5 (n .4), other 6 (n .5), other 7 (n .6), other 8 (n .7))
+      simp (other 1 (n .0), other 2 (n .1), other 3 (n .2), other 4 (n .3), other 5 (n .4), other 6 (n .5), other 7 (n .6), other 8 (n .7), other 18 (n .8))
     where
       other : (c : ℕ) → (code ≡ c → ⊥) → eqb c code ≡ false
       other c g = ne-eqb c code (λ e. g (sym e))
 
+  -- the line of 18, whose places its own scan goes through
+  pub scanned-18 : {code k : ℕ} → code ≡ 18 → First (repeated N) (arcs N) k → Scanned N f code k
+  unfolding named refusalsWith
+  scanned-18 {code} {k} e p = record { first = subst (λ (c : ℕ). First (line N f c .applies) (line N f c .places) k) (sym e) p }
+
   -- ---- what the lines passed leave to the next
 
   early : (c : ℕ) → c ≤ 3 → Asks N c
-  early c h = record { even = λ l. absurd (omega arith) }
+  early c h = record { even = λ l. absurd (omega arith); sound = λ e. absurd (omega arith) }
 
   module _ (k : ℕ) (t : Tried N f k) where
     few-events : 0 < k → events N ≤ 256
@@ -86,16 +92,19 @@ module _ (N : Network) (f : ℕ) where
     unfolding refusalsWith
     even h = even-of N f (t .clear 2 h .nowhere 0 (omega arith)) .even
 
-    -- a line of the arcs
-    of-arcs : 2 < k → line N f (at order k) ≡ getD (refusalsWith N f) k never
+    before-18 : 8 ≤ k → Sound N
+    before-18 h = sound-of N f (all-taken 8 (refusalsWith N f) (λ j l. t .clear j (omega arith)))
+
+    -- a line of the arcs; 18 comes after eight others
+    of-arcs : 2 < k → (at order k ≡ 18 → 8 ≤ k) → line N f (at order k) ≡ getD (refusalsWith N f) k never
         → line N f (at order k) .code ≡ at order k → placesOf (at order k) (events N) (arcs N) ≡ line N f (at order k) .places
         → line N f (at order k) .places ≡ arcs N → Turn N f k
-    of-arcs h e i n p = record {
+    of-arcs h s e i n p = record {
       same = e;
       code-is = i;
       count-is = n;
       few = omega (arith, p, even h .few-arcs);
-      asks = record { even = λ l. even h };
+      asks = record { even = λ l. even h; sound = λ q. before-18 (s q) };
     }
 
   pub turn : (k : ℕ) → k < length order → Tried N f k → Turn N f k
@@ -103,12 +112,13 @@ module _ (N : Network) (f : ℕ) where
   turn zero h t = record { same = refl; code-is = refl; count-is = refl; few = omega arith; asks = early 1 (omega arith) }
   turn (suc zero) h t = record { same = refl; code-is = refl; count-is = refl; few = few-events 1 t (omega arith); asks = early 2 (omega arith) }
   turn (suc (suc zero)) h t = record { same = refl; code-is = refl; count-is = refl; few = omega arith; asks = early 3 (omega arith) }
-  turn (suc (suc (suc zero))) h t = of-arcs 3 t (omega arith) refl refl refl refl
-  turn (suc (suc (suc (suc zero)))) h t = of-arcs 4 t (omega arith) refl refl refl refl
-  turn (suc (suc (suc (suc (suc zero))))) h t = of-arcs 5 t (omega arith) refl refl refl refl
-  turn (suc (suc (suc (suc (suc (suc zero)))))) h t = of-arcs 6 t (omega arith) refl refl refl refl
-  turn (suc (suc (suc (suc (suc (suc (suc zero))))))) h t = of-arcs 7 t (omega arith) refl refl refl refl
-  turn (suc (suc (suc (suc (suc (suc (suc (suc k)))))))) h t = absurd (omega arith)
+  turn (suc (suc (suc zero))) h t = of-arcs 3 t (omega arith) (λ e. omega arith) refl refl refl refl
+  turn (suc (suc (suc (suc zero)))) h t = of-arcs 4 t (omega arith) (λ e. omega arith) refl refl refl refl
+  turn (suc (suc (suc (suc (suc zero))))) h t = of-arcs 5 t (omega arith) (λ e. omega arith) refl refl refl refl
+  turn (suc (suc (suc (suc (suc (suc zero)))))) h t = of-arcs 6 t (omega arith) (λ e. omega arith) refl refl refl refl
+  turn (suc (suc (suc (suc (suc (suc (suc zero))))))) h t = of-arcs 7 t (omega arith) (λ e. omega arith) refl refl refl refl
+  turn (suc (suc (suc (suc (suc (suc (suc (suc zero)))))))) h t = of-arcs 8 t (omega arith) (λ e. omega arith) refl refl refl refl
+  turn (suc (suc (suc (suc (suc (suc (suc (suc (suc k))))))))) h t = absurd (omega arith)
 
   -- ---- one line after the other
 

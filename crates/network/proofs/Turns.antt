@@ -11,7 +11,8 @@ use Rattle.numbers.specs.Row.{at}
 use Rattle.network.specs.Network.{Network, arcs, tail, head, lower}
 use Rattle.network.specs.PublicRule.{arcPeriod, slackBy, slack, tension, turnedBy, Turn, turnBy, turnOf, Timetable}
 use Rattle.network.specs.Inner.{Turning}
-use Rattle.network.proofs.Sound.{Sound, arc-period}
+use Rattle.network.specs.Trial.{Sound}
+use Rattle.network.proofs.Sound.{arc-period}
 use Rattle.network.proofs.Times.{time-small}
 use Rattle.network.proofs.Arcs.{Worked}
 

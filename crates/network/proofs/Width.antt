@@ -14,7 +14,8 @@ use Rattle.numbers.proofs.Remainders.{remainder-below}
 use Rattle.numbers.specs.Row.{at}
 use Rattle.network.specs.Network.{Network, arcs, tail, head, lower, upper}
 use Rattle.network.specs.PublicRule.{arcPeriod, slack, tension, met, lesser, workingBy, working, widthOf}
-use Rattle.network.proofs.Sound.{Sound, arc-period}
+use Rattle.network.specs.Trial.{Sound}
+use Rattle.network.proofs.Sound.{arc-period}
 
 -- ---- of two bounds
 
@@ -22,6 +23,15 @@ use Rattle.network.proofs.Sound.{Sound, arc-period}
 pub size : (z : ℤ) → dn z ≤ up z → up z ≡ natAbs z + dn z
 size (pos n) h = omega arith
 size (negsuc n) h = absurd (omega arith)
+
+-- of a bound from l up, and above it by less than g: it is l and the difference
+pub apart-is : (l w : ℤ) → l ≤ℤ w → up w + dn l ≡ up l + dn w + natAbs (w -ℤ l)
+apart-is l w h =
+    let d = ofSub w l in
+    omega (arith, zed, d, size (w -ℤ l) (omega (arith, zed, d, h)))
+
+pub apart-below : (l w : ℤ) {g : ℕ} → l ≤ℤ w → (w -ℤ l) <ℤ pos g → natAbs (w -ℤ l) < g
+apart-below l w h k = omega (arith, zed, apart-is l w h, k, ofSub w l)
 
 -- the lesser is the one that the test finds
 pub lesser-is : (x y : ℤ) {b : Bool} → leZ x y ≡ b → cond b x y ≡ lesser x y
@@ -59,10 +69,10 @@ module _ {g : ℕ} {l u : ℤ} (p : 0 < g) (o : l ≤ℤ u) where
       go true e = f e
       go false e = h e
 
-  working-from : l ≤ℤ workingBy g l u
+  pub working-from : l ≤ℤ workingBy g l u
   working-from = by-cases (λ w. l ≤ℤ w) (λ e. o) (λ e. omega (arith, zed, ofSum l (pos g), ofSub (l +ℤ pos g) (pos 1)))
 
-  working-below : (workingBy g l u -ℤ l) <ℤ pos g
+  pub working-below : (workingBy g l u -ℤ l) <ℤ pos g
   working-below =
       by-cases (λ w. (w -ℤ l) <ℤ pos g)
       (λ e. omega (arith, zed, leZ-true u (most g l) e, ofSub u l, ofSum l (pos g), ofSub (l +ℤ pos g) (pos 1)))
@@ -94,12 +104,11 @@ narrow N a s h =
 module _ (N : Network) (a : ℕ) (s : Sound N) (h : a < arcs N) where
   pub width-is : up (working N a) + dn (lower N a) ≡ up (lower N a) + dn (working N a) + widthOf N a
   unfolding widthOf
-  width-is =
-      let d = ofSub (working N a) (lower N a) in
-      omega (arith, zed, d, size (working N a -ℤ lower N a) (omega (arith, zed, d, narrow N a s h .ordered)))
+  width-is = apart-is (lower N a) (working N a) (narrow N a s h .ordered)
 
   pub width-below : widthOf N a < arcPeriod N a
-  width-below = omega (arith, zed, width-is, narrow N a s h .below, ofSub (working N a) (lower N a))
+  unfolding widthOf
+  width-below = apart-below (lower N a) (working N a) (narrow N a s h .ordered) (narrow N a s h .below)
 
 module _ (N : Network) (t : List ℕ) (a : ℕ) (s : Sound N) (h : a < arcs N) where
   pub slack-below : slack N t a < arcPeriod N a

@@ -6,4 +6,5 @@ pub mod Refusals
 pub mod Table
 pub mod Rows
 pub mod Trial
+pub mod Pairs
 pub mod Inner

@@ -1,4 +1,4 @@
--- The public rule: arc period, slack, tension, turn, met, working upper bound, timetable, feasible, cost, smaller. Definitions alone.
+-- The public rule: arc period, slack, tension, turn, met, working upper bound and width, timetable, feasible, cost, smaller. Definitions alone.
 use mathlib.Core.Path.{_≡_}
 use mathlib.Core.List.{List}
 use mathlib.Core.Bool.{Bool, true, cond}
@@ -58,6 +58,10 @@ working N a = workingBy (arcPeriod N a) (lower N a) (upper N a)
 -- the slack up to which arc a is met: the working upper bound less lower
 unfoldable pub widthOf : Network → ℕ → ℕ
 widthOf N a = natAbs (working N a -ℤ lower N a)
+
+-- what the lower bound of arc a leaves by g
+unfoldable pub offsetOf : Network → ℕ → ℕ
+offsetOf N a = remainder (lower N a) (arcPeriod N a)
 
 -- a time that event v may take: from 0 to its period less 1
 unfoldable pub allowed : Network → ℕ → ℕ → Bool

@@ -1,7 +1,7 @@
--- The refusals of a network: the paper's table, codes 1 to 8, in its order. Definitions alone.
+-- The refusals of a network: the paper's table, codes 1 to 8 and 18, in its order. Definitions alone.
 use mathlib.Core.Path.{_≡_}
 use mathlib.Core.List.{List, [], _∷_}
-use mathlib.Core.Bool.{Bool, not, _||_}
+use mathlib.Core.Bool.{Bool, not, _||_, _&&_}
 use Prim.Native.Nat.{ℕ}
 use lib.IntN.{ℤ, pos, negsuc}
 use lib.Signed.{ltZ}
@@ -9,6 +9,8 @@ use lib.ListN.{length}
 use lib.Dec.{ltb, leb, eqb}
 use Rattle.network.specs.declared.Answer.{Answer}
 use Rattle.network.specs.Network.{Network, events, arcs, period, tail, head, lower, upper, weight}
+use Rattle.network.specs.PublicRule.{widthOf, offsetOf}
+use Rattle.network.specs.First.{first}
 use Rattle.network.specs.Refusals.{Refusal, once, each, answerOf}
 
 -- below the least or above the greatest, of unsigned and of signed numbers
@@ -30,6 +32,15 @@ uneven m heads lowers uppers weights further =
 unfoldable pub strays : ℕ → ℕ → ℕ → Bool
 strays n from to = leb n from || leb n to
 
+-- two arcs are one rule: equal tail, equal head, lower bounds that leave the same remainder by g, equal working width. Weights play no part.
+unfoldable pub repeats : Network → ℕ → ℕ → Bool
+repeats N a b =
+    (eqb (tail N a) (tail N b) && eqb (head N a) (head N b)) && (eqb (offsetOf N a) (offsetOf N b) && eqb (widthOf N a) (widthOf N b))
+
+-- arc b repeats an arc before it: the first such is below b
+unfoldable pub repeated : Network → ℕ → Bool
+repeated N b = ltb (first (λ a. repeats N a b) b) b
+
 -- the table, where a row of length `further` counts as an arc row
 unfoldable pub refusalsWith : Network → ℕ → List Refusal
 refusalsWith N further =
@@ -49,6 +60,8 @@ refusalsWith N further =
     ∷ each 7 (arcs N) (λ a. ltZ (upper N a) (lower N a))
     -- weight above 10,000
     ∷ each 8 (arcs N) (λ a. outside 0 10000 (weight N a))
+    -- the same rule entered twice: at the second arc
+    ∷ each 18 (arcs N) (repeated N)
     ∷ []
 
 -- the table where no further row counts

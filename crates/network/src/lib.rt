@@ -3,6 +3,7 @@ ghost use mathlib.Core.Path.{_≡_};
 ghost use Prim.Native.Nat.{_<_};
 ghost use Rattle.network.specs.Refusals.{answer, filled};
 
+mod repeat;
 pub mod rule;
 pub mod table;
 

@@ -4,12 +4,13 @@ ghost use Rattle.network.specs.Network.{netOf};
 ghost use Rattle.network.specs.Table.{outside as outsideOf, uneven as unevenOf, strays as straysOf, refusalOf};
 ghost use Rattle.network.specs.Trial.{line, placesOf, AsksAt, AsksScan, Scanned};
 use crate::Answer;
+use crate::repeat::first_repeat;
 use crate::rule::bound;
 use crate::rule::entry;
 use crate::rule::outside_signed;
 
 // The codes in the order in which they are tried.
-const ORDER: [u32; 8] = [1, 2, 3, 4, 5, 6, 7, 8];
+const ORDER: [u32; 9] = [1, 2, 3, 4, 5, 6, 7, 8, 18];
 
 // Is x below the least or above the greatest?
 pub fn outside(least: usize, greatest: usize, x: usize) -> bool
@@ -123,6 +124,9 @@ fn first_place(
     requires { ⌜ AsksScan (netOf periods tail head lower upper weight) further code count ⌝ }
     ensures { λ r. ⌜ Scanned (netOf (periods .entry) (tail .entry) (head .entry) (lower .entry) (upper .entry) (weight .entry)) further code r ⌝ }
 {
+    if code == 18 {
+        return first_repeat(periods, tail, head, lower, upper, weight);
+    }
     let mut i = 0;
     while i < count {
         if applies(periods, tail, head, lower, upper, weight, further, code, i) {

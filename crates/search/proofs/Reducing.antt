@@ -17,8 +17,9 @@ use Rattle.network.specs.Network.{Network, arcs, period, tail, head, lower}
 use Rattle.numbers.specs.Row.{at}
 use Rattle.network.specs.PublicRule.{arcPeriod, slackBy, slack, met, working, widthOf, allowed, Feasible}
 use Rattle.network.specs.Table.{WellFormed}
-use Rattle.network.proofs.Arcs.{ArcOf, period-of}
-use Rattle.network.proofs.Sound.{Sound, sound, arc-period}
+use Rattle.network.specs.Trial.{Sound, ArcOf}
+use Rattle.network.proofs.Arcs.{period-of}
+use Rattle.network.proofs.Sound.{sound, arc-period}
 use Rattle.network.proofs.Width.{width-is, width-below, met-width}
 use Rattle.search.specs.Looked.{Looked}
 use Rattle.search.specs.Looked.Looked.{found, nothing}
@@ -125,11 +126,11 @@ module _ {N : Network} {a : ℕ} (c : ArcOf N a) where
   found-width l h e = e ∙ (λ j. natAbs (h j -ℤ l j))
 
   pub width-fits : {g y : ℕ} {low high : ℤ} → g ≡ arcPeriod N a → low ≡ lower N a → high ≡ working N a → y ≡ natAbs (high -ℤ low) → y ≤ g - 1
-  width-fits q l h e = omega (arith, found-width l h e, width-below N a (sound N (c .well)) (c .arc))
+  width-fits q l h e = omega (arith, found-width l h e, width-below N a (c .sound) (c .arc))
 
   pub working-small : {high : ℤ} → high ≡ working N a → natAbs high ≤ 10800
   working-small h =
-      let s = sound N (c .well) in
+      let s = c .sound in
       let l = lower N a in
       rw h
       (absℤ (working N a) (omega (arith, width-is N a s (c .arc), width-below N a s (c .arc), period-of c .most, ofAbs l, s .lower-small a (c .arc))))

@@ -3,10 +3,10 @@ use mathlib.Core.Path.{_≡_, refl, _∙_}
 use mathlib.Core.List.{List, map, List·Memᴰ, List·Memᴰ·head, List·Memᴰ·tail}
 use Rattle.numbers.specs.Divisor.{gcd}
 use Rattle.numbers.specs.Remainder.{remainder, quotient}
-use Rattle.network.specs.PublicRule.{arcPeriod, slack, tension, turnOf, working, widthOf, arcCost, costTo}
+use Rattle.network.specs.PublicRule.{arcPeriod, slack, tension, turnOf, working, widthOf, offsetOf, arcCost, costTo}
 use Rattle.network.specs.First.{first}
 use Rattle.network.specs.Refusals.{answerOf, after}
-use Rattle.network.specs.Table.{outside, outsideℤ, uneven, strays, refusalsWith}
+use Rattle.network.specs.Table.{outside, outsideℤ, uneven, strays, repeats, repeated, refusalsWith}
 use Rattle.network.specs.Rows.{written, short, noted}
 use Rattle.search.specs.Reduced.{metAt, putArc, putArcs}
 use Rattle.search.specs.Model.{reducedFor, hinders, fits, tries, find, smallestOf}
@@ -20,7 +20,7 @@ use Rattle.timetable.proofs.Models.{only}
 
 -- one test over the whole list
 all : map (λ (c : Case). computed (c .call)) cases ≡ map (λ (c : Case). c .said) cases
-unfolding gcd remainder quotient arcPeriod slack tension turnOf working widthOf arcCost costTo first answerOf after outside outsideℤ uneven strays refusalsWith written short noted metAt putArc putArcs reducedFor hinders fits tries find smallestOf own step run answer measureRefusals measureOf solveRefusals solveJudged rebuildRefusals rebuildJudged measureModel solveModel rebuildModel
+unfolding gcd remainder quotient arcPeriod slack tension turnOf working widthOf offsetOf arcCost costTo first answerOf after outside outsideℤ uneven strays repeats repeated refusalsWith written short noted metAt putArc putArcs reducedFor hinders fits tries find smallestOf own step run answer measureRefusals measureOf solveRefusals solveJudged rebuildRefusals rebuildJudged measureModel solveModel rebuildModel
 all = refl
 
 -- and so of each case

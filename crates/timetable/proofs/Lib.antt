@@ -15,3 +15,4 @@ pub mod Accepts
 pub mod Models
 pub mod Cases
 pub mod Turned
+pub mod Repeated

@@ -17,7 +17,8 @@ use Rattle.numbers.specs.Row.{at, atℤ}
 use Rattle.numbers.proofs.Divisors.{gcd-same}
 use Rattle.network.specs.Network.{Network, events, arcs, period, tail, head, lower}
 use Rattle.network.specs.PublicRule.{arcPeriod, slackBy, slack, tension, working, allowed}
-use Rattle.network.proofs.Sound.{Sound, sound, insideℤ}
+use Rattle.network.specs.Trial.{Sound}
+use Rattle.network.proofs.Sound.{sound, insideℤ}
 use Rattle.network.proofs.Width.{narrow}
 use Rattle.walks.specs.Walk.{Between}
 use Rattle.walks.specs.Times.{Anchored}

@@ -1,9 +1,9 @@
--- The paper's cases P1 to P11 with the turns of each timetable, and the clerks' question: one list. A weight that the paper leaves out is 1.
--- Definitions alone.
+-- The paper's cases P1 to P11 with the turns of each timetable, the clerks' question, and rules entered twice: one list. A weight that the paper
+-- leaves out is 1. Definitions alone.
 use mathlib.Core.List.{List, [], _∷_, _++_, map}
 use Prim.Native.Nat.{ℕ, _+_, _-_}
 use lib.IntN.{ℤ, pos, negsuc}
-use lib.ListN.{replicate}
+use lib.ListN.{length, replicate}
 use Rattle.network.specs.Network.{Network, net, events, arcs}
 use Rattle.network.specs.Refusals.{answer}
 use Rattle.network.specs.Rows.{ArcRows, arcRows}
@@ -32,9 +32,9 @@ A₁ = A (10 ∷ 20 ∷ 28 ∷ []) (15 ∷ 25 ∷ 30 ∷ [])
 abbrev one : List ℕ → ℕ → ℕ → ℕ → ℕ → Network
 one periods from to l u = net periods (from ∷ []) (to ∷ []) (pos l ∷ []) (pos u ∷ []) (1 ∷ [])
 
--- two events of period 60 and two arcs from 0 to 1
-abbrev twice : List ℕ → List ℕ → Network
-twice l u = net (60 ∷ 60 ∷ []) (0 ∷ 0 ∷ []) (1 ∷ 1 ∷ []) (signed l) (signed u) (1 ∷ 1 ∷ [])
+-- two events of these periods and arcs from 0 to 1
+abbrev parallel : List ℕ → List ℤ → List ℤ → Network
+parallel periods l u = net periods (replicate (length l) 0) (replicate (length l) 1) l u (replicate (length l) 1)
 
 -- ---- calls; each entry of a lent row that is to be written holds 99, a number that no case writes
 
@@ -103,7 +103,7 @@ cases =
     ∷ refuses (A (19 ∷ 20 ∷ 20 ∷ []) (19 ∷ 20 ∷ 20 ∷ [])) 10 0  -- P3 with arc 0 at [19,19]
     ∷ solves (one (60 ∷ 20 ∷ []) 0 1 25 30) (0 ∷ 5 ∷ []) (25 ∷ []) (1 ∷ []) 0  -- P4
     ∷ solves (one (60 ∷ 20 ∷ []) 1 0 25 30) (0 ∷ 10 ∷ []) (30 ∷ []) (2 ∷ []) 5  -- P5
-    ∷ solves (twice (10 ∷ 14 ∷ []) (15 ∷ 20 ∷ [])) (0 ∷ 14 ∷ []) (14 ∷ 14 ∷ []) (0 ∷ 0 ∷ []) 4  -- P6
+    ∷ solves (parallel (60 ∷ 60 ∷ []) (signed (10 ∷ 14 ∷ [])) (signed (15 ∷ 20 ∷ []))) (0 ∷ 14 ∷ []) (14 ∷ 14 ∷ []) (0 ∷ 0 ∷ []) 4  -- P6
     ∷ rebuilds A₁ (12 ∷ 20 ∷ 28 ∷ []) (0 ∷ 12 ∷ 32 ∷ []) 6  -- P7
     ∷ rebuildsIn 2 A₁ (12 ∷ 20 ∷ 28 ∷ []) (0 ∷ 12 ∷ 32 ∷ []) 6  -- P7 in a row longer than needed
     ∷ rejects A₁ (10 ∷ 21 ∷ 30 ∷ []) 13 2  -- P8
@@ -114,4 +114,9 @@ cases =
     ∷ solves (one (60 ∷ 60 ∷ []) 0 1 0 60) (0 ∷ 0 ∷ []) (0 ∷ []) (0 ∷ []) 0  -- P11 with [0,60]
     ∷ measures (one (60 ∷ 60 ∷ []) 0 1 30 30) (50 ∷ 20 ∷ []) (pos 30 ∷ []) (pos 1 ∷ []) 0  -- the clerks' minutes 50 and 20
     ∷ measures (net (60 ∷ 20 ∷ []) (0 ∷ []) (1 ∷ []) (negsuc 34 ∷ []) (pos 0 ∷ []) (1 ∷ [])) (0 ∷ 5 ∷ []) (negsuc 34 ∷ []) (negsuc 1 ∷ []) 0  -- below zero, by 20
+    ∷ refuses (parallel (60 ∷ 60 ∷ []) (negsuc 49 ∷ pos 10 ∷ []) (negsuc 44 ∷ pos 15 ∷ [])) 18 1  -- a rule entered twice, -50 and 10 by 60
+    ∷ refuses (parallel (60 ∷ 20 ∷ []) (signed (0 ∷ 20 ∷ [])) (signed (59 ∷ 39 ∷ []))) 18 1  -- both as wide as their period
+    ∷ refuses (parallel (60 ∷ 60 ∷ []) (signed (10 ∷ 14 ∷ 14 ∷ 10 ∷ [])) (signed (15 ∷ 20 ∷ 20 ∷ 15 ∷ []))) 18 2  -- a pair inside another
+    ∷ rejects (parallel (60 ∷ 20 ∷ []) (signed (5 ∷ 5 ∷ [])) (signed (9 ∷ 9 ∷ []))) (5 ∷ 5 ∷ []) 18 1  -- also where periods differ
+    ∷ solves (net (60 ∷ 60 ∷ []) (0 ∷ 1 ∷ []) (1 ∷ 0 ∷ []) (signed (10 ∷ 10 ∷ [])) (signed (50 ∷ 50 ∷ [])) (1 ∷ 1 ∷ [])) (0 ∷ 10 ∷ []) (10 ∷ 50 ∷ []) (0 ∷ 1 ∷ []) 40  -- there and back is no repeat
     ∷ []

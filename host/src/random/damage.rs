@@ -1,15 +1,19 @@
 //! Damages: each makes a right case wrong at a random place, so that a known code applies.
 
+use super::networks::{self, is_new};
 use super::Random;
 use crate::compare::Case;
 use crate::network::{Arc, Rows};
-use crate::reference::{arc_period, remainder, working_upper};
+use crate::reference::{arc_period, remainder, repeats_earlier, working_upper};
 
 /// The code that the damage brings about, and what it does to the case.
 pub type Damage = (u32, fn(&mut Random, &mut Case));
 
-/// The damages to a network, one for each of codes 1 to 8.
-pub const NETWORK: [Damage; 8] = [
+/// The codes in the order in which they are tried.
+const ORDER: [u32; 16] = [1, 2, 3, 4, 5, 6, 7, 8, 18, 9, 10, 11, 12, 13, 14, 15];
+
+/// The damages to a network, one for each of codes 1 to 8 and 18.
+pub const NETWORK: [Damage; 9] = [
     (1, event_count),
     (2, period),
     (3, arc_rows),
@@ -18,15 +22,45 @@ pub const NETWORK: [Damage; 8] = [
     (6, lower),
     (7, upper),
     (8, weight),
+    (18, repeat),
 ];
 
-/// Does all the damages, the highest code first, so that the lowest surely stands in the end.
+/// Where a code stands in the order.
+pub fn rank(code: u32) -> usize {
+    let found = ORDER.iter().position(|&other| other == code);
+    found.expect("a code of a timetable's calls")
+}
+
+/// Does all the damages, the last code first, so that the first surely stands in the end.
 pub fn apply(random: &mut Random, case: &mut Case, damages: &[Damage]) {
     let mut falling = damages.to_vec();
-    falling.sort_by_key(|&(code, _)| std::cmp::Reverse(code));
-    for (_, damage) in falling {
+    falling.sort_by_key(|&(code, _)| std::cmp::Reverse(rank(code)));
+    for (code, damage) in falling {
         damage(random, case);
+        if rank(code) > rank(18) {
+            drop_repeats(case);
+        }
     }
+}
+
+/// An arc that comes to repeat an earlier one by accident goes: the earlier one rules out as much.
+fn drop_repeats(case: &mut Case) {
+    for arc in (0..case.rows.tail.len()).rev() {
+        if repeats_earlier(&case.rows.network(), arc) {
+            case.rows.remove(arc);
+            case.tensions.remove(arc);
+        }
+    }
+}
+
+/// Adds an arc at a random place, with an entry for it in the rows of tensions and turns.
+fn insert(random: &mut Random, case: &mut Case, arc: Arc, tension: i32) {
+    let place = random.below(case.rows.tail.len() + 1);
+    case.rows.insert(place, arc);
+    // A row that was cut short may end before.
+    let place = place.min(case.tensions.len());
+    case.tensions.insert(place, tension);
+    case.turns.push(i32::MAX);
 }
 
 fn event_count(random: &mut Random, case: &mut Case) {
@@ -120,6 +154,29 @@ fn weight(random: &mut Random, case: &mut Case) {
     case.rows.weight[arc] = random.pick(&[10_001, 1 << 31, u32::MAX]);
 }
 
+/// A further arc says what another says, whole periods earlier or later, at any weight.
+fn repeat(random: &mut Random, case: &mut Case) {
+    let network = case.rows.network();
+    let model = random.below(network.tail.len());
+    let g = i64::from(arc_period(&network, model));
+    let width = working_upper(&network, model) - i64::from(network.lower[model]);
+    let left = remainder(network.lower[model].into(), g as u32);
+    let lower = left + g * random.between(-(7200 + left) / g, (7200 - left) / g);
+    let upper = if width < g - 1 {
+        (lower + width) as i32
+    } else {
+        networks::upper(random, lower, width, g)
+    };
+    let arc = Arc {
+        tail: network.tail[model],
+        head: network.head[model],
+        lower: lower as i32,
+        upper,
+        weight: networks::weight(random),
+    };
+    insert(random, case, arc, arc.lower);
+}
+
 /// For a call that reads the times: not exactly one for each event.
 pub const READ_TIMES: Damage = (9, |random, case| {
     while case.times.len() == case.rows.periods.len() {
@@ -169,7 +226,6 @@ pub const INFEASIBLE: Damage = (10, |random, case| {
     let (tail, head) = (case.rows.tail[model], case.rows.head[model]);
     let lower = case.rows.lower[model].min(7199);
     for bound in [lower, lower + 1] {
-        let place = random.below(case.rows.tail.len() + 1);
         let arc = Arc {
             tail,
             head,
@@ -177,9 +233,7 @@ pub const INFEASIBLE: Damage = (10, |random, case| {
             upper: bound,
             weight: 1,
         };
-        case.rows.insert(place, arc);
-        case.tensions.push(i32::MAX);
-        case.turns.push(i32::MAX);
+        insert(random, case, arc, i32::MAX);
     }
 });
 
@@ -214,18 +268,20 @@ pub const TENSION_OUTSIDE: Damage = (12, |random, case| {
 pub const OPEN_LOOP: Damage = (13, |random, case| {
     let model = random.below(case.rows.tail.len());
     let period = case.rows.periods[0];
-    let lower = case.rows.lower[model];
-    let other = case.tensions[model] + random.between(1, i64::from(period) - 1) as i32;
-    let tension = lower + remainder(i64::from(other - lower), period) as i32;
-    let greatest = lower + period as i32 - 1;
-    let arc = Arc {
+    let other = i64::from(case.tensions[model]) + random.between(1, i64::from(period) - 1);
+    let lower = random.between(-3600, 3600);
+    let tension = (lower + remainder(other - lower, period)) as i32;
+    let greatest = lower as i32 + period as i32 - 1;
+    let mut arc = Arc {
         tail: case.rows.tail[model],
         head: case.rows.head[model],
-        lower,
+        lower: lower as i32,
         upper: random.pick(&[tension, greatest, i32::MAX]),
         weight: 1,
     };
-    let place = random.below(case.rows.tail.len() + 1);
-    case.rows.insert(place, arc);
-    case.tensions.insert(place, tension);
+    if !is_new(&mut case.rows, arc) {
+        // By bounds for this tension alone it repeats at most an arc that has the same.
+        (arc.lower, arc.upper) = (tension, tension);
+    }
+    insert(random, case, arc, tension);
 });

@@ -28,6 +28,7 @@ fn edits(case: &Case) -> Vec<Edit> {
     add_periods(&mut list, case);
     add_values(&mut list, case);
     add_bounds(&mut list, case);
+    add_repeats(&mut list, case);
     add_times(&mut list, case);
     add_tensions(&mut list, case);
     add_lengths(&mut list);
@@ -82,6 +83,29 @@ fn add_bounds(list: &mut Vec<Edit>, case: &Case) {
     }
 }
 
+/// One arc instead of another: the same again, a period later or earlier, one tick past that, and
+/// one tick wider.
+fn add_repeats(list: &mut Vec<Edit>, case: &Case) {
+    let network = case.rows.network();
+    let arcs = places(network.tail.len());
+    for &model in &arcs {
+        let g = arc_period(&network, model) as i32;
+        let (tail, head) = (network.tail[model], network.head[model]);
+        let lower = network.lower[model];
+        let width = working_upper(&network, model) as i32 - lower;
+        for &arc in arcs.iter().filter(|&&arc| arc != model) {
+            for (shift, wider) in [(0, 0), (g, 0), (-g, 0), (g + 1, 0), (0, 1)] {
+                list.push(Box::new(move |case| {
+                    set(&mut case.rows.tail, arc, tail);
+                    set(&mut case.rows.head, arc, head);
+                    set(&mut case.rows.lower, arc, lower + shift);
+                    set(&mut case.rows.upper, arc, lower + shift + width + wider);
+                }));
+            }
+        }
+    }
+}
+
 fn add_times(list: &mut Vec<Edit>, case: &Case) {
     for event in places(case.rows.periods.len()) {
         let period = case.rows.periods[event];
@@ -124,10 +148,15 @@ fn resize_events(case: &mut Case, n: usize) {
     resize(&mut case.times, n);
 }
 
+/// Each further arc begins a tick before the one that it follows, so that it need not repeat that.
 fn resize_arcs(case: &mut Case, m: usize) {
+    let known = case.rows.lower.len();
     resize(&mut case.rows.tail, m);
     resize(&mut case.rows.head, m);
     resize(&mut case.rows.lower, m);
+    for (ticks, lower) in (1..).zip(case.rows.lower.iter_mut().skip(known)) {
+        *lower = lower.saturating_sub(ticks);
+    }
     resize(&mut case.rows.upper, m);
     resize(&mut case.rows.weight, m);
     resize(&mut case.tensions, m);

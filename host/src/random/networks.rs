@@ -1,9 +1,12 @@
-//! Well-formed random networks, each with a timetable.
+//! Well-formed random networks without repeats, each with a timetable.
 
 use super::Random;
 use crate::compare::Case;
 use crate::network::{Arc, Rows};
-use crate::reference::{common_divisor, remainder};
+use crate::reference::{common_divisor, remainder, repeats_earlier};
+
+/// No more arcs are drawn for a network: where events are few and periods short, all might be there.
+const DRAWS: usize = 1000;
 
 /// Every arc is met by the timetable.
 pub fn planted(random: &mut Random) -> Case {
@@ -31,20 +34,23 @@ pub fn linked(random: &mut Random) -> Case {
     build(random, periods, m, true)
 }
 
-/// Many arcs of the greatest weight with long slacks: the cost takes more than 32 bits.
+/// 256 arcs of the greatest weight with long slacks: the cost takes more than 32 bits. Where every
+/// slack is the longest, no two arcs may have the same ends, so that it takes more events.
 pub fn heavy(random: &mut Random) -> Case {
-    let n = random.between(2, 64) as usize;
-    let mut case = build(random, vec![3600; n], 256, true);
-    let rows = &mut case.rows;
-    let least = random.pick(&[1800, 3599]);
-    for arc in 0..256 {
-        let tail = case.times[rows.tail[arc] as usize] as i32;
-        let head = case.times[rows.head[arc] as usize] as i32;
-        rows.lower[arc] = head - tail - random.between(least, 3599) as i32;
-        rows.upper[arc] = upper(random, rows.lower[arc].into(), 3599, 3600);
-        rows.weight[arc] = 10_000;
-    }
-    case
+    let (least, fewest) = random.pick(&[(1800, 2), (3599, 24)]);
+    let n = random.between(fewest, 64) as usize;
+    fill(random, vec![3600; n], 256, |random, rows, times| {
+        let (tail, head) = ends(random, rows);
+        let slack = random.between(least, 3599);
+        let lower = i64::from(times[head as usize]) - i64::from(times[tail as usize]) - slack;
+        Arc {
+            tail,
+            head,
+            lower: lower as i32,
+            upper: upper(random, lower, 3599, 3600),
+            weight: 10_000,
+        }
+    })
 }
 
 pub(super) fn size(random: &mut Random) -> (usize, usize) {
@@ -79,21 +85,48 @@ fn multiples(random: &mut Random, n: usize, least: i64) -> Vec<u32> {
 }
 
 pub(super) fn build(random: &mut Random, periods: Vec<u32>, m: usize, met: bool) -> Case {
+    fill(random, periods, m, |random, rows, times| {
+        arc(random, rows, times, met)
+    })
+}
+
+/// Draws the times, and `m` arcs beside them, or fewer where the rest would be repeats.
+fn fill(
+    random: &mut Random,
+    periods: Vec<u32>,
+    m: usize,
+    draw: impl Fn(&mut Random, &Rows, &[u32]) -> Arc,
+) -> Case {
     let times: Vec<u32> = periods
         .iter()
         .map(|&period| random.below(period as usize) as u32)
         .collect();
     let mut rows = Rows::new(&periods, &[]);
-    for _ in 0..m {
-        let arc = arc(random, &rows, &times, met);
-        rows.push(arc);
+    for _ in 0..DRAWS {
+        if rows.tail.len() == m {
+            break;
+        }
+        let arc = draw(random, &rows, &times);
+        if is_new(&mut rows, arc) {
+            rows.push(arc);
+        }
     }
+    let m = rows.tail.len();
     Case {
         tensions: kept(random, m, 1_000_000_000),
         turns: kept(random, m, -1_000_000_000),
         rows,
         times,
     }
+}
+
+/// Does the arc repeat none of the rows? They are left as they were.
+pub(super) fn is_new(rows: &mut Rows, arc: Arc) -> bool {
+    let last = rows.tail.len();
+    rows.push(arc);
+    let is_new = !repeats_earlier(&rows.network(), last);
+    rows.remove(last);
+    is_new
 }
 
 fn arc(random: &mut Random, rows: &Rows, times: &[u32], met: bool) -> Arc {
@@ -138,7 +171,7 @@ fn lower(random: &mut Random, g: i64) -> i64 {
 
 /// From `least` above lower on. One in four spans is as wide as the arc's period or wider, up to
 /// the greatest upper bound that there is.
-fn upper(random: &mut Random, lower: i64, least: i64, g: i64) -> i32 {
+pub(super) fn upper(random: &mut Random, lower: i64, least: i64, g: i64) -> i32 {
     let greatest = i64::from(i32::MAX);
     let upper = match random.below(8) {
         0 => lower + least,
@@ -150,7 +183,7 @@ fn upper(random: &mut Random, lower: i64, least: i64, g: i64) -> i32 {
     upper as i32
 }
 
-fn weight(random: &mut Random) -> u32 {
+pub(super) fn weight(random: &mut Random) -> u32 {
     match random.below(4) {
         0 => 0,
         1 => 10_000,

@@ -1,5 +1,6 @@
-//! The refusals of a network, codes 1 to 8, each tried over everything before the next.
+//! The refusals of a network, codes 1 to 8 and then 18, each tried over everything before the next.
 
+use super::rule::repeats_earlier;
 use crate::network::{Answer, Network};
 
 /// A rule about the rows as a whole: its place is 0.
@@ -33,4 +34,5 @@ pub fn refusal(network: &Network) -> Option<Answer> {
         .or_else(|| first(6, m, |arc| lower[arc] < -7200 || lower[arc] > 7200))
         .or_else(|| first(7, m, |arc| upper[arc] < lower[arc]))
         .or_else(|| first(8, m, |arc| weight[arc] > 10_000))
+        .or_else(|| first(18, m, |arc| repeats_earlier(network, arc)))
 }

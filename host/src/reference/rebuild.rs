@@ -33,7 +33,7 @@ pub fn rebuild_by_trying(network: &Network, tensions: &[i32], times: &mut [u32])
     })
 }
 
-/// Codes 1 to 12. The tension row counts as an arc row, so its length belongs to code 3.
+/// Codes 1 to 12 and 18. The tension row counts as an arc row, so its length belongs to code 3.
 fn refused(network: &Network, tensions: &[i32], times: &[u32]) -> Option<Answer> {
     let (n, m) = (network.periods.len(), network.tail.len());
     let (periods, lower) = (network.periods, network.lower);

@@ -1,4 +1,5 @@
-//! The public rule: arc period, remainder, slack, tension, turn, met, working upper bound, cost.
+//! The public rule: arc period, remainder, slack, tension, turn, met, working upper bound, repeats,
+//! cost.
 
 use crate::network::Network;
 
@@ -68,6 +69,22 @@ pub fn working_upper(network: &Network, arc: usize) -> i64 {
     let upper = i64::from(network.upper[arc]);
     let lower = i64::from(network.lower[arc]);
     upper.min(lower + i64::from(arc_period(network, arc)) - 1)
+}
+
+/// The same rule twice: equal tail, equal head, lower bounds that leave the same remainder by g,
+/// and equal working width.
+pub fn repeats(network: &Network, first: usize, second: usize) -> bool {
+    let lower = |arc: usize| i64::from(network.lower[arc]);
+    let left = |arc: usize| remainder(lower(arc), arc_period(network, arc));
+    let width = |arc: usize| working_upper(network, arc) - lower(arc);
+    network.tail[first] == network.tail[second]
+        && network.head[first] == network.head[second]
+        && left(first) == left(second)
+        && width(first) == width(second)
+}
+
+pub fn repeats_earlier(network: &Network, second: usize) -> bool {
+    (0..second).any(|first| repeats(network, first, second))
 }
 
 /// The sum of weight times slack over all arcs.

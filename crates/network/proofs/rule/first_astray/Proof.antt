@@ -9,7 +9,9 @@ use Rattle.network.specs.Network.{Network, net}
 use Rattle.network.specs.Table.{outsideℤ}
 use Rattle.network.specs.Rows.{astray}
 use Rattle.network.proofs.Scans.{Passed, passed-none, passed-more, first-hit, first-miss}
-use Rattle.network.proofs.Arcs.{ArcOf, kept, asks-period, in-lowers, in-uppers, asks-working, working-is}
+use Rattle.network.specs.Trial.{ArcOf}
+use Rattle.network.proofs.Sound.{sound}
+use Rattle.network.proofs.Arcs.{kept, asks-period, in-lowers, in-uppers, asks-working, working-is}
 use Rattle.network.proofs.rule.first_astray.Statement.{statement}
 use Rattle.network.proofs.rule.first_astray.Tie as tie
 
@@ -29,7 +31,7 @@ N c =
     net (a .periods .now) (a .tail .now) (a .head .now) (a .lower .now) (a .upper .now) (a .weight .now)
 
 here : (c : tie.In-loop Inv-loop μ-loop) → ArcOf (N (c .before)) (c .before .loop .arc)
-here c = record { well = start (c .before) .pre .well; arc = c .loop-test .taken }
+here c = record { sound = sound (N (c .before)) (start (c .before) .pre .well); arc = c .loop-test .taken }
 
 -- the test is the definition's
 tested : (c : tie.After-outside-signed Inv-loop μ-loop)

@@ -134,7 +134,7 @@ returns-9 c =
     let r = c .match .rest in
     let s = start (c .before) in
     no-code (N s) (s .args .further) (s .args .code) (s .args .i)
-    (r .0 .0 .0 .0 .0 .0 .0 .1, r .0 .0 .0 .0 .0 .0 .1, r .0 .0 .0 .0 .0 .1, r .0 .0 .0 .0 .1, r .0 .0 .0 .1, r .0 .0 .1, r .0 .1, r .1)
+    (r .0 .0 .0 .0 .0 .0 .0 .1, r .0 .0 .0 .0 .0 .0 .1, r .0 .0 .0 .0 .0 .1, r .0 .0 .0 .0 .1, r .0 .0 .0 .1, r .0 .0 .1, r .0 .1, r .1, s .pre .one)
 
 pub applies-spec : {M : Type 1} → statement M
 applies-spec =

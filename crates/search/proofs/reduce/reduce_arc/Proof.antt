@@ -6,7 +6,9 @@ use mir.Syntax.{w32}
 use mir.Val.{toZ, ofZ}
 use Rattle.network.specs.Network.{Network, net, lower}
 use Rattle.network.specs.PublicRule.{working}
-use Rattle.network.proofs.Arcs.{ArcOf, kept, arc-small, asks-period, in-lowers, in-uppers, period-of, asks-working, working-is, span}
+use Rattle.network.specs.Trial.{ArcOf}
+use Rattle.network.proofs.Sound.{sound}
+use Rattle.network.proofs.Arcs.{kept, arc-small, asks-period, in-lowers, in-uppers, period-of, asks-working, working-is, span}
 use Rattle.search.specs.Reduced.{PutAsks}
 use Rattle.search.proofs.Reducing.{width-fits, working-small, put-forward, put-backward}
 use Rattle.search.proofs.reduce.reduce_arc.Statement.{statement}
@@ -21,7 +23,7 @@ N s =
     net (a .periods .now) (a .tail .now) (a .head .now) (a .lower .now) (a .upper .now) (a .weight .now)
 
 here : (s : tie.Start) → ArcOf (N s) (s .args .arc)
-here s = record { well = s .pre .lent .well; arc = s .pre .arc }
+here s = record { sound = sound (N s) (s .pre .lent .well); arc = s .pre .arc }
 
 room : (s : tie.Start) → PutAsks (s .args .bars .now) (s .args .arc)
 room s = record { few = arc-small (here s); arc = omega (arith, s .pre .lent .long, s .pre .arc) }

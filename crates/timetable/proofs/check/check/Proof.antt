@@ -7,7 +7,8 @@ use Rattle.network.specs.Network.{Network, net}
 use Rattle.network.specs.Refusals.{answer}
 use Rattle.network.specs.Table.{WellFormed}
 use Rattle.network.specs.Inner.{Timed}
-use Rattle.network.proofs.Sound.{Sound, sound, well-of}
+use Rattle.network.specs.Trial.{Sound}
+use Rattle.network.proofs.Sound.{sound, well-of}
 use Rattle.timetable.proofs.Checks.{check-network, check-9, check-14, check-15, check-0}
 use borrow.Author.Needs.{needs}
 use Rattle.timetable.proofs.check.check.Statement.{statement}

@@ -10,7 +10,8 @@ use borrow.Author.Needs.{needs}
 use Rattle.network.specs.Network.{Network, net}
 use Rattle.network.specs.Table.{refusalsWith}
 use Rattle.network.proofs.Refusing.{AllClear}
-use Rattle.network.proofs.Sound.{Sound, sound, clear-with, long-with, well-with}
+use Rattle.network.specs.Trial.{Sound}
+use Rattle.network.proofs.Sound.{sound, clear-with, long-with, well-with}
 use Rattle.timetable.specs.Rebuild.{Sheet}
 use Rattle.timetable.specs.Rebuild.Rebuilt.{refused, judged}
 use Rattle.timetable.proofs.Rebuilds.{rebuild-network, rebuild-9, rebuild-11, rebuild-12, sheet-of, judged-sheet, rebuilt-refused}
