@@ -24,7 +24,7 @@ use Rattle.network.specs.Trial.{Inside, Sound, ArcOf}
 use Rattle.network.specs.Pairs.{AsksWidth, TwoArcs, sameRule, Last, Linked, Chained, Down, AsksTwin, Twin}
 use Rattle.network.proofs.Scans.{same-test}
 use Rattle.network.proofs.Arcs.{in-heads, in-lowers, in-uppers}
-use Rattle.network.proofs.Repeats.{same-period, differ}
+use Rattle.network.proofs.Repeats.{same-period, no-repeat}
 
 -- ---- one arc against an earlier one
 
@@ -80,7 +80,7 @@ module _ (N : Network) (a b : ℕ) {g left wide : ℕ} (some : 0 < g) (t : tail 
 -- ---- down the arcs that start at one event
 
 pub down-first : {N : Network} {b c : ℕ} → Last (N .tails) (tail N b) b c → Down N b c
-down-first {N} {b} l = record { within = l .within; own = l .own; none = λ a h k. differ N a b (λ w. l .none a h k (w .tails)) }
+down-first {N} {b} l = record { within = l .within; own = l .own; none = λ a h k. no-repeat N a b (λ w. l .none a h k (w .tails)) }
 
 pub down-more : {N : Network} {b c d : ℕ} → Down N b c → 0 < c → repeats N (c - 1) b ≡ false → Last (N .tails) (tail N (c - 1)) (c - 1) d → Down N b d
 down-more {N} {b} {c} {d} p h e l = record {
@@ -91,7 +91,7 @@ down-more {N} {b} {c} {d} p h e l = record {
   where
     below : (a : ℕ) → d ≤ a → (a ≡ c - 1) ⊎ (a < c - 1) → repeats N a b ≡ false
     below a k (inl q) = rw q e
-    below a k (inr m) = differ N a b (λ w. l .none a k m (w .tails ∙ sym (p .own h)))
+    below a k (inr m) = no-repeat N a b (λ w. l .none a k m (w .tails ∙ sym (p .own h)))
 
     go : (a : ℕ) → d ≤ a → a < b → Dec (a < c) → repeats N a b ≡ false
     go a k m (yes n) = below a k (eq-or-lt-of-le (omega arith))

@@ -67,18 +67,18 @@ module _ {N : Network} {a b : ℕ} (s : Sound N) (h : a < arcs N) (w : Twins N a
   same-met t k = met-width N t a s h ∙ (λ j. leb (same-slack t j) (w .widths j)) ∙ sym (met-width N t b s k)
 
 -- arcs that are not one rule
-pub differ : (N : Network) (a b : ℕ) → (Twins N a b → ⊥) → repeats N a b ≡ false
-differ N a b n = go (repeats N a b) refl
+pub no-repeat : (N : Network) (a b : ℕ) → (Twins N a b → ⊥) → repeats N a b ≡ false
+no-repeat N a b n = go (repeats N a b) refl
   where
     go : (r : Bool) → repeats N a b ≡ r → r ≡ false
     go true e = absurd (n (twins N a b e))
     go false e = refl
 
 pub opposite : {N : Network} (a b : ℕ) → Sound N → a < arcs N → tail N b ≡ head N a → repeats N a b ≡ false
-opposite {N} a b s h e = differ N a b (λ w. s .no-loop a h (w .tails ∙ e))
+opposite {N} a b s h e = no-repeat N a b (λ w. s .no-loop a h (w .tails ∙ e))
 
 pub other-head : (N : Network) (a b : ℕ) → (head N a ≡ head N b → ⊥) → repeats N a b ≡ false
-other-head N a b n = differ N a b (λ w. n (w .heads))
+other-head N a b n = no-repeat N a b (λ w. n (w .heads))
 
 -- ---- where 18 stands: at the second arc of the first pair
 

@@ -5,7 +5,7 @@ use mathlib.Core.List.{List}
 use mathlib.Core.Bool.{Bool, true, false, cond}
 use Prim.Native.Nat.{ℕ, _+_, _≤_, _<_}
 use native.Mathlib.Omega.{arith}
-use borrow.Author.Tests.{leb-true, leb-false}
+use borrow.Author.Tests.{leb-true, le-leb}
 use lib.IntN.{ℤ, pos, negsuc, natAbs, _+ℤ_, _-ℤ_}
 use lib.Signed.{leZ, _≤ℤ_, _<ℤ_}
 use lib.Dec.{leb}
@@ -15,6 +15,7 @@ use Rattle.numbers.specs.Row.{at}
 use Rattle.network.specs.Network.{Network, arcs, tail, head, lower, upper}
 use Rattle.network.specs.PublicRule.{arcPeriod, slack, tension, met, lesser, workingBy, working, widthOf}
 use Rattle.network.specs.Trial.{Sound}
+use Rattle.network.proofs.Scans.{same-test}
 use Rattle.network.proofs.Sound.{arc-period}
 
 -- ---- of two bounds
@@ -45,16 +46,10 @@ yes x y h = go (leZ x y) refl
     go false e = absurd (omega (arith, ofLe x y h, leZ-false x y e))
 
 within : (l u : ℤ) (s : ℕ) → l ≤ℤ u → leZ (l +ℤ pos s) u ≡ leb s (natAbs (u -ℤ l))
-within l u s h = go (leZ (l +ℤ pos s) u) (leb s (natAbs (u -ℤ l))) refl refl
-  where
-    d : up (u -ℤ l) ≡ natAbs (u -ℤ l) + dn (u -ℤ l)
-    d = size (u -ℤ l) (omega (arith, ofLe l u h, ofSub u l))
-
-    go : (b c : Bool) → leZ (l +ℤ pos s) u ≡ b → leb s (natAbs (u -ℤ l)) ≡ c → b ≡ c
-    go true true e f = refl
-    go true false e f = absurd (omega (arith, d, leZ-true (l +ℤ pos s) u e, leb-false s (natAbs (u -ℤ l)) f, ofSum l (pos s), ofSub u l))
-    go false true e f = absurd (omega (arith, d, leZ-false (l +ℤ pos s) u e, leb-true s (natAbs (u -ℤ l)) f, ofSum l (pos s), ofSub u l))
-    go false false e f = refl
+within l u s h =
+    same-test (leZ (l +ℤ pos s) u) (leb s (natAbs (u -ℤ l)))
+    (λ e. le-leb s (natAbs (u -ℤ l)) (omega (arith, apart-is l u h, leZ-true (l +ℤ pos s) u e, ofSum l (pos s))))
+    (λ e. yes (l +ℤ pos s) u (omega (arith, zed, apart-is l u h, leb-true s (natAbs (u -ℤ l)) e, ofSum l (pos s))))
 
 -- ---- their working upper bound, by cases: upper itself, or the greatest that a slack below g reaches
 

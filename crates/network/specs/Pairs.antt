@@ -59,16 +59,18 @@ pub record Down (N : Network) (b c : ℕ) : Type 0 where
   pub own : 0 < c → tail N (c - 1) ≡ tail N b
   pub none : (a : ℕ) → c ≤ a → a < b → repeats N a b ≡ false
 
+-- to look for an arc that b repeats, those before it are linked
 pub record AsksTwin (N : Network) (lasts befores : List ℕ) (b : ℕ) : Type 0 where
   pub chained : Chained N lasts befores b
   pub arc : b < arcs N
 
+-- and to go on from c, where the heads first agree
 pub record AsksMatched (N : Network) (befores : List ℕ) (b c : ℕ) : Type 0 where
   pub linked : Linked N befores b
   pub arc : b < arcs N
   pub down : Down N b c
 
--- r is an arc before b that b repeats, or no such arc and no such number
+-- r is an arc before b that b repeats; or it is no arc before b, and b repeats none
 pub record Twin (N : Network) (b r : ℕ) : Type 0 where
   pub found : r < b → repeats N r b ≡ true
   pub none : b ≤ r → (a : ℕ) → a < b → repeats N a b ≡ false

@@ -15,7 +15,7 @@ use crate::rule::entry;
 use crate::rule::width;
 use crate::rule::working;
 
-// What a lower bound leaves by g, counted from the least that there is: from there on the machine's own remainder serves.
+// What a lower bound leaves by g, counted from -7,200, the least that there is: no number is then below zero, and the machine's remainder serves.
 fn offset(g: u32, low: i32) -> u32
     requires { ⌜ (0 < g) × (natAbs low ≤ 7200) ⌝ }
     ensures { λ r. ⌜ r ≡ remainder (low +ℤ pos 7200) g ⌝ }
@@ -55,7 +55,7 @@ fn same_rule(
     working_width(g, low, bound(upper, a)) == wide
 }
 
-// The first arc, from the one before `from` down, that this one repeats, or its own number. Its offset and width are worked out once.
+// From link `from` down, an arc that this one repeats, or its own number. Its own offset and width are worked out once.
 fn matched(
     periods: &[u32],
     tail: &[u32],
