@@ -4,6 +4,7 @@ mod repeat;
 mod search;
 mod text;
 
+pub use search::{search_size, Size};
 pub use text::{print, read};
 
 use crate::network::{Answer, Network};

@@ -2,6 +2,7 @@
 use mathlib.Core.Path.{_≡_, refl, sym, _∙_}
 use mathlib.Core.Logic.{_⊎_, inl, inr}
 use mathlib.Core.List.{List}
+use mathlib.Core.Bool.{Bool, true}
 use Prim.Native.Nat.{ℕ, zero, suc, _+_, _<_, _≤_}
 use native.Mathlib.Nat.{eq-or-lt-of-le}
 use native.Mathlib.Decide.{decLt}
@@ -12,7 +13,8 @@ use lib.Seq.{getD-set-other, ext-getD}
 use Rattle.network.specs.Network.{Network, events}
 use Rattle.numbers.specs.Row.{at}
 use Rattle.network.specs.PublicRule.{Smaller, Smallest}
-use Rattle.search.specs.Steps.{Agree}
+use Rattle.search.specs.Marks.{mark, Grown}
+use Rattle.search.specs.Steps.{Agree, AgreeOn}
 
 pub agree-refl : (k : ℕ) (t : List ℕ) → Agree k t t
 agree-refl k t = record { each = λ i h. refl }
@@ -38,6 +40,23 @@ agree-more {k} {t} {u} a e = record { each = λ i h. pick i (eq-or-lt-of-le (ome
 
 pub agree-set : (t : List ℕ) (k x : ℕ) → Agree k t (set t k x)
 agree-set t k x = record { each = λ i h. sym (getD-set-other t k i x 0 (λ e. omega arith)) }
+
+-- ---- at the blamed ones alone
+
+pub agree-on : (B : List Bool) {k : ℕ} {t u : List ℕ} → Agree k t u → AgreeOn B k t u
+agree-on B a = record { each = λ i h e. a .each i h }
+
+pub agree-ungrown : {B B′ : List Bool} {k : ℕ} {t u : List ℕ} → k ≤ 64 → Grown B B′ → AgreeOn B′ k t u → AgreeOn B k t u
+agree-ungrown l g a = record { each = λ i h e. a .each i h (g .each i (omega arith) e) }
+
+-- the row s has the first k times of t, and what it has at event k counts only if that is blamed
+pub agree-deeper : {B D : List Bool} {k : ℕ} {t s u : List ℕ} → k < 64 → Agree k t s → Grown D B → AgreeOn B k t u → (mark D k ≡ true → at s k ≡ at u k)
+    → AgreeOn D (k + 1) s u
+agree-deeper {D = D} {k = k} {t = t} {s = s} {u = u} l g o a e = record { each = λ i h b. pick i b (eq-or-lt-of-le (omega arith)) }
+  where
+    pick : (i : ℕ) → mark D i ≡ true → (i ≡ k) ⊎ (i < k) → at s i ≡ at u i
+    pick i b (inl q) = rw q (e (rw q at b))
+    pick i b (inr h) = sym (g .each i h) ∙ a .each i h (o .each i (omega arith) b)
 
 -- ---- of two rows that do not agree, one is the smaller
 

@@ -26,7 +26,7 @@ use Rattle.search.specs.Looked.Looked.{found, nothing}
 use Rattle.search.specs.Reduced.{Reduced, reduced, past, metAt, metIn, Fitting, Barred, Sized, nearOf, lastOf, edgeOf, shiftOf, runOf, put, putArc, putArcs, BarsLent}
 use Rattle.search.specs.Threads.{ThreadAsks, Lent}
 use Rattle.search.specs.Steps.{Placed}
-use Rattle.search.proofs.Agreeing.{agree-none}
+use Rattle.search.proofs.Agreeing.{agree-none, agree-on}
 use Rattle.search.proofs.Bars.{BarIs, bar-is, arcs-length}
 
 -- ---- a slack s up to w, and how far a time is past its run, p: of g times the run leaves w and one more
@@ -207,11 +207,11 @@ module _ {N : Network} {bars : List ℕ} (lent : BarsLent N bars) where
   }
 
   -- what the search says of these rows it says of the network
-  pub looked : {t u : List ℕ} (r : Bool) → Placed R t 0 u r → Looked N u r
+  pub looked : {t u : List ℕ} {B : List Bool} (r : Bool) → Placed R t 0 u B r → Looked N u r
   looked {t} {u} true p =
       let l = p .found refl in
       found (record { feasible = feasible (l .feasible); least = λ v q s. l .least v (fitting q) (agree-none t v) s })
-  looked {t} {u} false p = nothing (λ v q. p .none-left refl .never v (fitting q) (agree-none t v))
+  looked {t} {u} {B} false p = nothing (λ v q. p .none-left refl .never v (fitting q) (agree-on B (agree-none t v)))
 
 -- ---- and of the rows of scratch, as calls leave them
 
@@ -233,5 +233,5 @@ module _ {N : Network} {bars bars′ firsts nexts : List ℕ} (w : WellFormed N)
     pub sized-left : Sized (reduced (N .periods) bars′ m)
     sized-left = subst Sized as-left (sized bars-lent)
 
-    pub looked-left : {t u : List ℕ} (r : Bool) → Placed (reduced (N .periods) bars′ m) t 0 u r → Looked N u r
-    looked-left {t} {u} r p = looked bars-lent r (subst (λ (R : Reduced). Placed R t 0 u r) (sym as-left) p)
+    pub looked-left : {t u : List ℕ} {B : List Bool} (r : Bool) → Placed (reduced (N .periods) bars′ m) t 0 u B r → Looked N u r
+    looked-left {t} {u} {B} r p = looked bars-lent r (subst (λ (R : Reduced). Placed R t 0 u B r) (sym as-left) p)

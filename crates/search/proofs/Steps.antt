@@ -14,14 +14,14 @@ use Rattle.network.specs.PublicRule.{Smaller}
 use Rattle.network.proofs.Scans.{true-false}
 use Rattle.search.specs.Reduced.{Reduced, reduced, eventsIn, periodIn, nearIn, lastIn, metAt, metIn, Fitting, Sized}
 use Rattle.search.specs.Threads.{Threads}
-use Rattle.search.specs.Marks.{EventAsks, Ruled, EventMarked, FirstFree}
-use Rattle.search.specs.Steps.{Agree, Partial, Blocked, Ready, LeastFrom, Placed, NoneIn, Turn, Next, Trying}
-use Rattle.search.proofs.Agreeing.{agree-refl, agree-sym, agree-trans, agree-fewer, agree-more, agree-set}
-use Rattle.search.proofs.Marking.{fresh, fresh-empty}
+use Rattle.search.specs.Marks.{mark, Grown, Joined, EventAsks, Ruled, EventMarked, FirstFree}
+use Rattle.search.specs.Steps.{Agree, AgreeOn, Partial, BlockedOn, Ready, LeastFrom, Placed, NoneIn, Turn, Next, Trying}
+use Rattle.search.proofs.Agreeing.{agree-refl, agree-sym, agree-trans, agree-fewer, agree-more, agree-set, agree-on, agree-ungrown, agree-deeper}
+use Rattle.search.proofs.Marking.{fresh, fresh-empty, joined-first, joined-second}
 
 -- ---- the test of an arc goes by the times at its ends
 
-met-local : {R : Reduced} {k : ℕ} {t u : List ℕ} → Sized R → (a : ℕ) → a < R .arcs → lastIn (R .bars) a < k → Agree k t u → metIn (R .bars) t a ≡ metIn (R .bars) u a
+pub met-local : {R : Reduced} {k : ℕ} {t u : List ℕ} → Sized R → (a : ℕ) → a < R .arcs → lastIn (R .bars) a < k → Agree k t u → metIn (R .bars) t a ≡ metIn (R .bars) u a
 unfolding metAt
 met-local {R} s a m x g =
     rw (g .each (nearIn (R .bars) a) (omega (arith, s .barred .near-is a m)), g .each (lastIn (R .bars) a) x)
@@ -61,39 +61,45 @@ module _ {R : Reduced} {t : List ℕ} {k : ℕ} (c : Ready R t k) (e : k < event
       met a m (inl q) = p a m q
       met a m (inr l) = before .met a m l
 
-  pub fit-stop : (a : ℕ) → a < R .arcs → lastIn (R .bars) a ≡ k → metIn (R .bars) (set t k x) a ≡ false → Blocked R (set t k x) (k + 1)
-  fit-stop a m q n =
-      record { never = λ u f g. true-false (met-local (c .sized) a m (omega (arith, q)) g ∙ f .met a m) n }
-
 -- ---- times that are ruled out at event k
 
-none-empty : {R : Reduced} (t : List ℕ) (k x : ℕ) → NoneIn R t k x x
-none-empty t k x = record { never = λ v f a h l. absurd (omega arith) }
+none-empty : {R : Reduced} (t : List ℕ) (B : List Bool) (k x : ℕ) → NoneIn R t B k x x
+none-empty t B k x = record { never = λ v f a h l. absurd (omega arith) }
 
--- y more: no fitting timetable has the first k times and y
-none-more : {R : Reduced} {t s : List ℕ} {k x y : ℕ} → NoneIn R t k x y → Agree k t s → at s k ≡ y → Blocked R s (k + 1) → NoneIn R t k x (y + 1)
-none-more {R} {t} {s} {k} {x} {y} none g e b = record { never = λ u f a h l. pick u f a h (eq-or-lt-of-le (omega arith)) }
-  where
-    pick : (u : List ℕ) → Fitting R u → Agree k t u → x ≤ at u k → (at u k ≡ y) ⊎ (at u k < y) → ⊥
-    pick u f a h (inl q) = b .never u f (agree-more (agree-trans (agree-sym g) a) (e ∙ sym q))
-    pick u f a h (inr l) = none .never u f a h l
+none-grown : {R : Reduced} {t : List ℕ} {B B′ : List Bool} {k x y : ℕ} → k ≤ 64 → Grown B B′ → NoneIn R t B k x y → NoneIn R t B′ k x y
+none-grown l g n = record { never = λ v f a h m. n .never v f (agree-ungrown l g a) h m }
 
-none-join : {R : Reduced} {t : List ℕ} {k x y z : ℕ} → NoneIn R t k x y → NoneIn R t k y z → NoneIn R t k x z
-none-join {R} {t} {k} {x} {y} {z} p q = record { never = λ v f a h l. pick v f a h l (decLt (at v k) y) }
+none-join : {R : Reduced} {t : List ℕ} {B : List Bool} {k x y z : ℕ} → NoneIn R t B k x y → NoneIn R t B k y z → NoneIn R t B k x z
+none-join {R} {t} {B} {k} {x} {y} {z} p q = record { never = λ v f a h l. pick v f a h l (decLt (at v k) y) }
   where
-    pick : (v : List ℕ) → Fitting R v → Agree k t v → x ≤ at v k → at v k < z → Dec (at v k < y) → ⊥
+    pick : (v : List ℕ) → Fitting R v → AgreeOn B k t v → x ≤ at v k → at v k < z → Dec (at v k < y) → ⊥
     pick v f a h l (yes m) = p .never v f a h m
     pick v f a h l (no m) = q .never v f a (omega (arith, m)) l
+
+-- the row s has the first k times of t and time y at event k, and its placing failed: y is ruled out by the blame of both
+none-more : {R : Reduced} {t s : List ℕ} {B D B′ : List Bool} {k x y : ℕ} → k < 64 → NoneIn R t B k x y → Agree k t s → at s k ≡ y → BlockedOn R s D (k + 1)
+    → Joined B D B′
+    → NoneIn R t B′ k x (y + 1)
+none-more {R} {t} {s} {B} {D} {B′} {k} {x} {y} c none g e b j = record { never = λ u f a h l. pick u f a h (eq-or-lt-of-le (omega arith)) }
+  where
+    pick : (u : List ℕ) → Fitting R u → AgreeOn B′ k t u → x ≤ at u k → (at u k ≡ y) ⊎ (at u k < y) → ⊥
+    pick u f a h (inl q) = b .never u f (agree-deeper c g (joined-second j) a (λ _. e ∙ sym q))
+    pick u f a h (inr l) = none-grown (omega arith) (joined-first j) none .never u f a h l
+
+-- where event k isn't blamed for it, no time there would help
+passed-over : {R : Reduced} {t s : List ℕ} {B D : List Bool} {k : ℕ} → k < 64 → Agree k t s → mark D k ≡ false → Grown D B → BlockedOn R s D (k + 1)
+    → BlockedOn R t B k
+passed-over c g e o b = record { never = λ u f a. b .never u f (agree-deeper c g o a (λ q. absurd (true-false q e))) }
 
 -- ---- the finder of the next possible time
 
 pub period-small : {R : Reduced} {t : List ℕ} {k p : ℕ} → Ready R t k → k < eventsIn R → p ≡ periodIn R k → p ≤ 3600
 period-small {k = k} c e q = omega (arith, c .sized .period-most k e)
 
-pub event-asks : {periods bars firsts nexts t : List ℕ} {k p : ℕ} → Ready (reduced periods bars (length nexts)) t k → k < length periods → p ≡ at periods k
-    → Threads periods bars firsts nexts
-    → EventAsks bars firsts nexts t k (take p (replicate 3600 false))
-event-asks {p = p} c e q w =
+pub event-asks : {periods bars firsts nexts t : List ℕ} {B : List Bool} {k p : ℕ} → Ready (reduced periods bars (length nexts)) t k → k < length periods
+    → p ≡ at periods k → Threads periods bars firsts nexts → length B ≡ 64
+    → EventAsks bars firsts nexts t k (take p (replicate 3600 false)) B
+event-asks {p = p} c e q w b =
     let h = period-small c e q in
     let l = fresh p h in
     record {
@@ -103,11 +109,13 @@ event-asks {p = p} c e q w =
       times = λ i m. omega (arith, c .before .inside i m, c .sized .period-most i (omega arith));
       few = omega arith;
       empty = λ x m. fresh-empty p x h (omega arith);
+      few-events = omega (arith, c .sized .few);
+      room = b;
     }
 
 -- a time with no mark fits, and one that an arc rules out does not
-pub next : {R : Reduced} {t : List ℕ} {k x r : ℕ} {row : List Bool} → Ready R t k → k < eventsIn R → length row ≡ periodIn R k
-    → EventMarked (R .bars) (R .arcs) (R .arcs) t k row → FirstFree row x r → Next R t k x r
+pub next : {R : Reduced} {t : List ℕ} {k x r : ℕ} {row B : List Bool} → Ready R t k → k < eventsIn R → length row ≡ periodIn R k
+    → EventMarked (R .bars) (R .arcs) (R .arcs) t k row B → FirstFree row x r → Next R t k B x r
 next {r = r} c e l w f = record {
   least = f .least;
   most = omega (arith, l, f .most);
@@ -115,25 +123,25 @@ next {r = r} c e l w f = record {
   fit = λ h. fit-all c e r h (λ a m q. met-put c e r a m q ∙ w .clear r (omega (arith, l)) (f .free (omega (arith, l))) a m m q);
 }
 
-module _ {R : Reduced} {t : List ℕ} {k : ℕ} (c : Ready R t k) (e : k < eventsIn R) where
-  ruled-stop : {x : ℕ} → Ruled (R .bars) (R .arcs) t k x → Blocked R (set t k x) (k + 1)
-  ruled-stop {x} r =
-      fit-stop c e x (r .arc) (r .below) (r .ends) (met-put c e x (r .arc) (r .below) (r .ends) ∙ r .unmet)
-
-  next-none : {x r : ℕ} → Next R t k x r → NoneIn R t k x r
+module _ {R : Reduced} {t : List ℕ} {k : ℕ} {B : List Bool} (c : Ready R t k) (e : k < eventsIn R) where
+  -- the arc that rules a time out is not met either in a row with the same time at its earlier end
+  next-none : {x r : ℕ} → Next R t k B x r → NoneIn R t B k x r
+  unfolding metAt
   next-none n = record {
     never = λ v f a h m.
-        ruled-stop (n .passed (at v k) h m)
-        .never v f (agree-more (agree-trans (agree-sym (agree-set t k (at v k))) a) (put-here c e (at v k)));
+        let p = n .passed (at v k) h m in
+        let j = nearIn (R .bars) (p .arc) in
+        let near : at t j ≡ at v j = a .each j (omega (arith, c .sized .barred .near-is (p .arc) (p .below), p .ends)) (p .blamed) in
+        true-false (f .met (p .arc) (p .below)) (rw (p .ends, ← near) (p .unmet));
   }
 
   -- what is found is decided: no time that fits is passed
-  not-passed : {x r s : ℕ} → Next R t k x r → Next R t k x s → r < s → ⊥
+  not-passed : {x r s : ℕ} → Next R t k B x r → Next R t k B x s → r < s → ⊥
   not-passed {r = r} n o l =
       let p = o .passed r (n .least) l in
       true-false (n .fit (omega (arith, o .most)) .met (p .arc) (p .below) (omega (arith, p .ends))) (met-put c e r (p .arc) (p .below) (p .ends) ∙ p .unmet)
 
-  pub next-one : {x r s : ℕ} → Next R t k x r → Next R t k x s → r ≡ s
+  pub next-one : {x r s : ℕ} → Next R t k B x r → Next R t k B x s → r ≡ s
   next-one n o = omega (arith, not-passed n o, not-passed o n)
 
 -- ---- the search at event k
@@ -159,14 +167,14 @@ done {R} {t} {k} c e = record {
         let q : at t (s .event) ≡ at v (s .event) = ap (λ (l : List ℕ). at l (s .event)) (same v f g) in
         omega (arith, q, s .less)
 
-pub placed-all : {R : Reduced} {t : List ℕ} {k : ℕ} → Ready R t k → k ≡ eventsIn R → Placed R t k t true
+pub placed-all : {R : Reduced} {t : List ℕ} {B : List Bool} {k : ℕ} → Ready R t k → k ≡ eventsIn R → Placed R t k t B true
 placed-all {t = t} {k = k} c e =
     record { kept = agree-refl k t; found = λ q. done c e; none-left = λ q. absurd (true-false refl q) }
 
-pub turn-first : {R : Reduced} (t : List ℕ) (k : ℕ) → Turn R t k t 0
-turn-first t k = record { long = refl; same = agree-refl k t; none-in = none-empty t k 0 }
+pub turn-first : {R : Reduced} (t : List ℕ) (B : List Bool) (k : ℕ) → Turn R t k t B 0
+turn-first t B k = record { long = refl; same = agree-refl k t; none-in = none-empty t B k 0 }
 
-pub turn-last : {R : Reduced} {t u : List ℕ} {k x : ℕ} → k < eventsIn R → periodIn R k ≤ x → Turn R t k u x → Placed R t k u false
+pub turn-last : {R : Reduced} {t u : List ℕ} {B : List Bool} {k x : ℕ} → k < eventsIn R → periodIn R k ≤ x → Turn R t k u B x → Placed R t k u B false
 turn-last {k = k} m h w = record {
   kept = w .same;
   found = λ q. absurd (true-false q refl);
@@ -175,13 +183,23 @@ turn-last {k = k} m h w = record {
 
 -- ---- the finder found r
 
-pub trying : {R : Reduced} {t u : List ℕ} {k x r : ℕ} → Ready R t k → k < eventsIn R → Turn R t k u x → Next R t k x r → Trying R t k u r
-trying c e w n =
-    record { turn = record { long = w .long; same = w .same; none-in = none-join (w .none-in) (next-none c e n) }; fit = n .fit }
+pub trying : {R : Reduced} {t u : List ℕ} {B B′ : List Bool} {k x r : ℕ} → Ready R t k → k < eventsIn R → Turn R t k u B′ x → length B′ ≡ 64 → Grown B B′
+    → Next R t k B x r
+    → Trying R t k B u B′ r
+trying c e w l g n = record {
+  turn = record {
+    long = w .long;
+    same = w .same;
+    none-in = none-join (w .none-in) (none-grown (omega (arith, c .sized .few)) g (next-none c e n));
+  };
+  room = l;
+  grown = g;
+  fit = n .fit;
+}
 
 -- it is put there
-module _ {R : Reduced} {t u : List ℕ} {k r : ℕ} (c : Ready R t k) (m : k < eventsIn R) (w : Trying R t k u r) where
-  pub tried : Turn R t k (set u k r) r
+module _ {R : Reduced} {t u : List ℕ} {B B′ : List Bool} {k r : ℕ} (c : Ready R t k) (m : k < eventsIn R) (w : Trying R t k B u B′ r) where
+  pub tried : Turn R t k (set u k r) B′ r
   tried = record {
     long = length-set u k r ∙ w .turn .long;
     same = agree-trans (w .turn .same) (agree-set u k r);
@@ -201,7 +219,7 @@ module _ {R : Reduced} {t u : List ℕ} {k r : ℕ} (c : Ready R t k) (m : k < e
 
 -- ---- a turn: the time r stands at event k of the row v, and the rest is placed
 
-module _ {R : Reduced} {t v z : List ℕ} {k r : ℕ} {b : Bool} (w : Turn R t k v r) (e : at v k ≡ r) (p : Placed R v (k + 1) z b) where
+module _ {R : Reduced} {t v z : List ℕ} {B D : List Bool} {k r : ℕ} {b : Bool} (w : Turn R t k v B r) (e : at v k ≡ r) (p : Placed R v (k + 1) z D b) where
   step-kept : Agree k t z
   step-kept = agree-trans (w .same) (agree-fewer (omega arith) (p .kept))
 
@@ -219,19 +237,27 @@ module _ {R : Reduced} {t v z : List ℕ} {k r : ℕ} {b : Bool} (w : Turn R t k
       above u f s lt = l .least u f (agree-trans (p .kept) (agree-sym (agree-fewer (omega arith) (record { each = s .same })))) s
 
       equal : (u : List ℕ) → Fitting R u → Agree k t u → (s : Smaller u z) → s .event ≡ k → ⊥
-      equal u f a s q = w .none-in .never u f a (omega arith) (omega (arith, here, e, rw q at (s .less)))
+      equal u f a s q = w .none-in .never u f (agree-on B a) (omega arith) (omega (arith, here, e, rw q at (s .less)))
 
       cases : (u : List ℕ) → Fitting R u → Agree k t u → (s : Smaller u z) → Dec (s .event < k) → Dec (k < s .event) → ⊥
       cases u f a s (yes lt) d = below u a s lt
       cases u f a s (no n) (yes lt) = above u f s lt
       cases u f a s (no n) (no m) = equal u f a s (omega (arith, n, m))
 
-  pub step-hit : b ≡ true → Placed R t k z true
+  pub step-hit : {B′ : List Bool} → b ≡ true → Placed R t k z B′ true
   step-hit q = record { kept = step-kept; found = λ _. hit (p .found q); none-left = λ d. absurd (true-false refl d) }
 
-  pub step-missed : length z ≡ length v → b ≡ false → Turn R t k z (r + 1)
-  step-missed l q =
-      record { long = l ∙ w .long; same = step-kept; none-in = none-more (w .none-in) (w .same) e (p .none-left q) }
+  module _ (c : k < 64) (q : b ≡ false) where
+    pub step-missed : {B′ : List Bool} → length z ≡ length v → Joined B D B′ → Turn R t k z B′ (r + 1)
+    step-missed l j =
+        record { long = l ∙ w .long; same = step-kept; none-in = none-more c (w .none-in) (w .same) e (p .none-left q) j }
+
+    pub step-over : {C B′ : List Bool} → mark D k ≡ false → Joined C D B′ → Placed R t k z B′ false
+    step-over d j = record {
+      kept = step-kept;
+      found = λ o. absurd (true-false o refl);
+      none-left = λ _. passed-over c (w .same) d (joined-second j) (p .none-left q);
+    }
 
 -- ---- the whole search
 

@@ -1,5 +1,5 @@
 //! solve's search: event after event, each at its first time that no arc to an earlier one rules
-//! out.
+//! out. From an event that can't be placed it goes back to the last one that had a part in that.
 
 use super::{arc_period, working_upper};
 use crate::network::Network;
@@ -31,74 +31,147 @@ impl Bar {
         }
     }
 
-    /// Marks the times ruled out, by one division.
-    fn mark(&self, times: &[u32], row: &mut [bool]) {
+    /// Marks the times ruled out, by one division; had one of them no mark before?
+    fn mark(&self, times: &[u32], row: &mut [bool]) -> bool {
         let (run, gap) = (self.run as usize, self.gap as usize);
         let start = ((times[self.near as usize] + self.shift) % self.gap) as usize;
+        let mut fresh = false;
         // The run of the lap before may reach into the row.
         if start + run > gap {
-            row[..start + run - gap].fill(true);
+            fresh = mark_run(&mut row[..start + run - gap]);
         }
         let mut from = start;
         while from < row.len() {
             let end = row.len().min(from + run);
-            row[from..end].fill(true);
+            fresh |= mark_run(&mut row[from..end]);
             from += gap;
         }
+        fresh
     }
 }
 
+/// Had a place of the run no mark before?
+fn mark_run(run: &mut [bool]) -> bool {
+    let mut fresh = false;
+    for place in run {
+        fresh |= !*place;
+        *place = true;
+    }
+    fresh
+}
+
+/// What is counted on the way.
+trait Count {
+    fn add_node(&mut self);
+    fn add_division(&mut self);
+}
+
+/// Nothing, where the search is timed.
+impl Count for () {
+    fn add_node(&mut self) {}
+    fn add_division(&mut self) {}
+}
+
+/// How large a search is: its nodes are the events whose row is marked, each time anew, and each
+/// arc that is marked there costs a division.
+#[derive(Default)]
+pub struct Size {
+    pub nodes: u64,
+    pub divisions: u64,
+}
+
+impl Count for Size {
+    fn add_node(&mut self) {
+        self.nodes += 1;
+    }
+
+    fn add_division(&mut self) {
+        self.divisions += 1;
+    }
+}
+
+/// The events that have a part in something.
+type Blame = [bool; 64];
+
 /// What the search asks again and again, worked out once: what the arcs rule out, the first arc of
 /// each event that it is the later end of, and the next arc with the same later end.
-struct Search<'a> {
+struct Search<'a, C> {
     periods: &'a [u32],
     bars: [Bar; 256],
     firsts: [u32; 64],
     nexts: [u32; 256],
+    count: C,
 }
 
 pub fn smallest(network: &Network, times: &mut [u32]) -> bool {
-    let mut search = Search {
-        periods: network.periods,
-        bars: [Bar::default(); 256],
-        firsts: [NONE; 64],
-        nexts: [NONE; 256],
-    };
-    for arc in (0..network.tail.len()).rev() {
-        search.bars[arc] = Bar::new(network, arc);
-        let later = network.tail[arc].max(network.head[arc]) as usize;
-        search.nexts[arc] = search.firsts[later];
-        search.firsts[later] = arc as u32;
-    }
-    search.place(times, 0)
+    Search::new(network, ()).place(times, 0, &mut [false; 64])
 }
 
-impl Search<'_> {
-    /// Places the event and all later ones; false if that can't be.
-    fn place(&self, times: &mut [u32], event: usize) -> bool {
+/// The size of solve's search on a network that is in order.
+pub fn search_size(network: &Network) -> Size {
+    let mut search = Search::new(network, Size::default());
+    search.place(&mut [0; 64], 0, &mut [false; 64]);
+    search.count
+}
+
+impl<'a, C: Count> Search<'a, C> {
+    fn new(network: &Network<'a>, count: C) -> Self {
+        let mut search = Search {
+            periods: network.periods,
+            bars: [Bar::default(); 256],
+            firsts: [NONE; 64],
+            nexts: [NONE; 256],
+            count,
+        };
+        for arc in (0..network.tail.len()).rev() {
+            search.bars[arc] = Bar::new(network, arc);
+            let later = network.tail[arc].max(network.head[arc]) as usize;
+            search.nexts[arc] = search.firsts[later];
+            search.firsts[later] = arc as u32;
+        }
+        search
+    }
+
+    /// Places the event and all later ones; false if that can't be, and then no other times of the
+    /// events that are not blamed would help.
+    fn place(&mut self, times: &mut [u32], event: usize, blame: &mut Blame) -> bool {
         let Some(&period) = self.periods.get(event) else {
             return true;
         };
         let mut row = [false; 3600];
         let row = &mut row[..period as usize];
-        self.mark(times, event, row);
+        self.mark(times, event, row, blame);
+        let mut deeper = [false; 64];
         let mut from = 0;
         while let Some(wait) = row[from..].iter().position(|marked| !marked) {
             let time = from + wait;
             times[event] = time as u32;
-            if self.place(times, event + 1) {
+            if self.place(times, event + 1, &mut deeper) {
                 return true;
+            }
+            if !deeper[event] {
+                *blame = deeper;
+                return false;
+            }
+            for (blamed, deeper) in blame.iter_mut().zip(&deeper) {
+                *blamed |= deeper;
             }
             from = time + 1;
         }
         false
     }
 
-    /// Marks the times that the arcs between the event and earlier ones rule out.
-    fn mark(&self, times: &[u32], event: usize, row: &mut [bool]) {
+    /// Marks the times that the arcs between the event and earlier ones rule out. An earlier event
+    /// is blamed if an arc to it rules out a time that none before it did.
+    fn mark(&mut self, times: &[u32], event: usize, row: &mut [bool], blame: &mut Blame) {
+        *blame = [false; 64];
+        self.count.add_node();
         let mut arc = self.firsts[event] as usize;
         while let Some(bar) = self.bars.get(arc) {
-            bar.mark(times, row);
+            self.count.add_division();
+            if bar.mark(times, row) {
+                blame[bar.near as usize] = true;
+            }
             arc = self.nexts[arc] as usize;
         }
     }

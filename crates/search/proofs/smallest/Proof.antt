@@ -1,6 +1,6 @@
--- `search::smallest` meets its contract: it lends rows of its own, five entries for each arc, one for each event and one for each arc. Assumes nothing.
+-- `search::smallest` meets its contract: it lends rows of its own, five entries for each arc, one for each event, one for each arc and 64 for the blame. Assumes nothing.
 use Prim.Native.Nat.{_*_, _≤_}
-use mathlib.Core.Path.{sym}
+use mathlib.Core.Path.{refl, sym}
 use native.Mathlib.Omega.{arith}
 use lib.ListN.{length}
 use lib.Seq.{length-take-le}
@@ -43,16 +43,22 @@ array-borrow-prefix-nexts c = few (c .before .before)
 slice-aggregate-look-3 : tie.Need-slice-aggregate-look-3
 slice-aggregate-look-3 c = sym (length-take-le _ _ (few (c .before .before .before)))
 
+slice-aggregate-look-4 : tie.Need-slice-aggregate-look-4
+slice-aggregate-look-4 c = refl
+
 look-requires : tie.Need-look-requires
 look-requires c κs =
-    let a = c .before .before .before in (
+    let a = c .before .before .before .before in (
       start a .pre,
-      record {
-        bars-long = length-take-le _ _ (five a);
-        firsts-long = length-take-le _ _ (few-events a);
-        nexts-long = length-take-le _ _ (few a);
-        empty = λ v h. no-arc _ v (few-events a) h (few a);
-      },
+      (
+        record {
+          bars-long = length-take-le _ _ (five a);
+          firsts-long = length-take-le _ _ (few-events a);
+          nexts-long = length-take-le _ _ (few a);
+          empty = λ v h. no-arc _ v (few-events a) h (few a);
+        },
+        refl,
+      ),
     )
 
 same-length : tie.Need-same-length
@@ -72,6 +78,7 @@ smallest-spec =
     slice-aggregate-look-2
     array-borrow-prefix-nexts
     slice-aggregate-look-3
+    slice-aggregate-look-4
     look-requires
     same-length
     returns)
