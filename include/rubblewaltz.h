@@ -99,7 +99,7 @@ struct rubblewaltz_answer rubblewaltz_measure(
 /*
  * The smallest feasible timetable. Writes times 0 to n less 1, and tensions and turns 0 to m less
  * 1, the rest of longer rows is kept. Codes 0 with the cost, 1 to 10, 18. It has no time limit, and
- * needs 248 KiB of stack beside its caller's.
+ * needs 356 KiB of stack beside its caller's.
  */
 struct rubblewaltz_answer rubblewaltz_solve(
     const uint32_t *periods, size_t periods_length,

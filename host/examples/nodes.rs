@@ -1,33 +1,32 @@
-//! The size of solve's search on the networks of the folder networks, its divisions, and how fast
-//! it goes. Run with `cargo run --release --example nodes`.
+//! The size of solve's search on the networks of the folder networks, its divisions, and how long
+//! solve takes. Run with `cargo run --release --example nodes`.
 
 use rubblewaltz_host::compare::{Case, Version};
+use rubblewaltz_host::files::{self, Known};
 use rubblewaltz_host::timing::{announce, best, ratio};
-use rubblewaltz_host::{baseline, files, solve};
+use rubblewaltz_host::{baseline, solve};
 use std::hint::black_box;
 
 fn main() {
     announce();
-    println!("                           divisions               archive             safe Rust");
-    println!(
-        "network              nodes  per node         us    nodes/s         us    nodes/s  ratio"
-    );
+    println!("                                   divisions    archive  safe Rust");
+    println!("network             arcs     nodes  per node         us         us  ratio");
     for known in files::answers() {
-        report(&known.name);
+        report(&known);
     }
 }
 
-fn report(name: &str) {
-    let case = Case::unwritten(files::network(name));
+fn report(known: &Known) {
+    let case = known.unsolved();
     let size = baseline::search_size(&case.rows.network());
     let ours = microseconds(&case, solve);
     let theirs = microseconds(&case, baseline::solve);
     println!(
-        "{name:<17}{:>9}{:>10.2}{ours:>11.2}{:>11.0}{theirs:>11.2}{:>11.0}{:>7}",
+        "{:<18}{:>6}{:>10}{:>10.2}{ours:>11.2}{theirs:>11.2}{:>7}",
+        known.name,
+        size.arcs,
         size.nodes,
-        size.divisions as f64 / size.nodes as f64,
-        size.nodes as f64 * 1e6 / ours,
-        size.nodes as f64 * 1e6 / theirs,
+        size.divisions as f64 / size.nodes.max(1) as f64,
         ratio(ours, theirs)
     );
 }

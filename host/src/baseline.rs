@@ -1,5 +1,7 @@
 //! The archive's way of working in safe Rust, for the benchmark to measure it against.
 
+mod bar;
+mod closure;
 mod repeat;
 mod search;
 mod text;

@@ -1,7 +1,8 @@
 //! Reads the benchmark networks in the folder networks, and what solve is known to answer on them.
 
-use crate::network::Rows;
-use crate::reference::network_of;
+use crate::compare::Case;
+use crate::network::{Answer, Rows};
+use crate::reference::{measure, network_of};
 use std::fs;
 
 const FOLDER: &str = concat!(env!("CARGO_MANIFEST_DIR"), "/networks");
@@ -10,6 +11,25 @@ const FOLDER: &str = concat!(env!("CARGO_MANIFEST_DIR"), "/networks");
 pub struct Known {
     pub name: String,
     pub times: Option<Vec<u32>>,
+}
+
+impl Known {
+    /// The network with rows for solve to write.
+    pub fn unsolved(&self) -> Case {
+        Case::unwritten(network(&self.name))
+    }
+
+    /// What solve must answer and leave.
+    pub fn solved(&self) -> (Answer, Case) {
+        let mut left = self.unsolved();
+        let Some(times) = &self.times else {
+            return (Answer::refusal(10, 0), left);
+        };
+        left.times.clone_from(times);
+        let network = left.rows.network();
+        let answer = measure(&network, times, &mut left.tensions, &mut left.turns);
+        (answer, left)
+    }
 }
 
 pub fn answers() -> Vec<Known> {
@@ -28,7 +48,7 @@ fn known(line: &str) -> Known {
     }
 }
 
-/// All networks of the folder; solve's answers are known of those on which it is soon through.
+/// All networks of the folder; solve's answers are known of those without times already promised.
 pub fn names() -> Vec<String> {
     let files = fs::read_dir(FOLDER).expect("the folder");
     let mut names: Vec<String> = files

@@ -36,6 +36,8 @@ pub mod random;
 mod raw;
 pub mod reference;
 pub mod round_trip;
+pub mod sat;
+pub mod special;
 pub mod tally;
 pub mod timing;
 pub mod trials;

@@ -18,5 +18,7 @@ pub use rule::{
     arc_period, common_divisor, met, remainder, repeats, repeats_earlier, slack, tension, turn,
     working_upper,
 };
-pub use solve::{finishes_within, smallest, smallest_by_skipping, solve, solve_by_skipping};
+pub use solve::{
+    advance, finishes_within, smallest, smallest_by_skipping, solve, solve_by_skipping,
+};
 pub use text::{network_of, print, read, texts_of};

@@ -26,9 +26,14 @@ fn timed<T>(call: &mut impl FnMut() -> T, calls: u32) -> Duration {
     start.elapsed()
 }
 
+/// Is the archive for another processor?
+pub fn is_emulated() -> bool {
+    cfg!(bridged)
+}
+
 /// What is to be known before any of the archive's times is read.
 pub fn announce() {
-    if cfg!(bridged) {
+    if is_emulated() {
         println!(
             "The archive is for another processor: its times are an emulator's, with no ratio."
         );
@@ -37,7 +42,7 @@ pub fn announce() {
 
 /// An emulated call against a native one has none that means anything.
 pub fn ratio(ours: f64, theirs: f64) -> String {
-    if cfg!(bridged) {
+    if is_emulated() {
         return "-".into();
     }
     format!("{:.2}", ours / theirs)

@@ -1,16 +1,18 @@
 //! The benchmark's baseline against the reference, so that it measures work that is right.
 
-use rubblewaltz_host::compare::{Call, TextCall, CHECK, MEASURE, PRINT, READ, REBUILD, SOLVE};
+use rubblewaltz_host::compare::{
+    Call, Case, TextCall, CHECK, MEASURE, PRINT, READ, REBUILD, SOLVE, SOLVE_BY_SKIPPING,
+};
 use rubblewaltz_host::random::damage::{
     Damage, INFEASIBLE, LATE_TIME, NETWORK, OPEN_LOOP, OTHER_PERIOD, READ_TIMES, SHORT_TENSIONS,
     SHORT_TIMES, SHORT_TURNS, TENSION_OUTSIDE, TENSION_ROW, UNMET_ARC,
 };
 use rubblewaltz_host::random::{
-    knotted, linked, small, solvable, unplanted, vary_tensions, with_tensions, Random,
+    dense, knotted, linked, loose, small, solvable, unplanted, vary_tensions, with_tensions, Random,
 };
 use rubblewaltz_host::tally::Tally;
 use rubblewaltz_host::trials::text;
-use rubblewaltz_host::{baseline, trials};
+use rubblewaltz_host::{baseline, special, trials};
 
 const BASELINE_CHECK: Call = Call {
     name: "baseline check",
@@ -28,6 +30,11 @@ const BASELINE_SOLVE: Call = Call {
     name: "baseline solve",
     tried: baseline::solve,
     ..SOLVE
+};
+
+const BASELINE_SOLVE_BY_SKIPPING: Call = Call {
+    reference: SOLVE_BY_SKIPPING.reference,
+    ..BASELINE_SOLVE
 };
 
 const BASELINE_REBUILD: Call = Call {
@@ -101,6 +108,29 @@ fn right_cases() {
     scans.require(100, &[0, 15]);
     searches.require(100, &[0, 10]);
     loops.require(100, &[0, 12, 13]);
+}
+
+#[test]
+fn dense_networks() {
+    let mut random = Random::new(42);
+    let mut tally = Tally::new("baseline solve, dense networks");
+    for _ in 0..10_000 {
+        tally.add(BASELINE_SOLVE_BY_SKIPPING.compare(&dense(&mut random)).0);
+        tally.add(BASELINE_SOLVE_BY_SKIPPING.compare(&loose(&mut random)).0);
+    }
+    tally.require(2000, &[0, 10]);
+}
+
+/// Also whether the search is come to.
+#[test]
+fn special_networks() {
+    for special in special::all() {
+        let size = baseline::search_size(&special.rows.network());
+        assert_eq!(size.nodes > 0, special.searched, "{}", special.what);
+        let (answer, _) = BASELINE_SOLVE_BY_SKIPPING.compare(&Case::unwritten(special.rows));
+        let code = if special.feasible { 0 } else { 10 };
+        assert_eq!(answer.code, code, "{}", special.what);
+    }
 }
 
 #[test]

@@ -5,13 +5,16 @@ use rubblewaltz_host::random::damage::{
     Damage, INFEASIBLE, NETWORK, SHORT_TENSIONS, SHORT_TIMES, SHORT_TURNS,
 };
 use rubblewaltz_host::random::{
-    edges, heavy, planted, small, solvable, unplanted, unsolved, Random,
+    dense, edges, heavy, loose, planted, small, solvable, unplanted, unsolved, Random,
 };
 use rubblewaltz_host::reference::finishes_within;
 use rubblewaltz_host::tally::Tally;
-use rubblewaltz_host::{check, measure, trials, Answer};
+use rubblewaltz_host::{baseline, check, measure, special, trials, Answer};
 
 const CODES: [u32; 11] = [1, 2, 3, 4, 5, 6, 7, 8, 9, 10, 18];
+
+/// The reference tries all timetables of a dense network that has no more than that.
+const TIMETABLES: u32 = 2000;
 
 /// A network is left out where the reference's search is not through after so many steps.
 const STEPS: u64 = 500;
@@ -46,6 +49,49 @@ fn small_networks_by_trying_all_timetables() {
         tally.add(answer);
     }
     tally.require(5000, &[0, 10]);
+}
+
+/// Where no timetable is feasible, some are refused before the search and some by it; where one is,
+/// some searches find it at once and some go back.
+#[test]
+fn dense_networks() {
+    let mut random = Random::new(35);
+    let mut tally = Tally::new("solve, dense networks");
+    let (mut closed, mut searched, mut at_once, mut back) = (0, 0, 0, 0);
+    for round in 0..20_000 {
+        let make = if round % 2 == 0 { dense } else { loose };
+        let case = make(&mut random);
+        let few = case.rows.periods.iter().product::<u32>() <= TIMETABLES;
+        let call = if few { SOLVE } else { SOLVE_BY_SKIPPING };
+        let (answer, left) = call.compare(&case);
+        let nodes = baseline::search_size(&case.rows.network()).nodes;
+        let n = case.rows.periods.len() as u64;
+        match answer.code {
+            0 if nodes == n => at_once += 1,
+            0 => back += 1,
+            _ if nodes == 0 => closed += 1,
+            _ => searched += 1,
+        }
+        if answer.code == 0 {
+            assert_accepted(answer, &left);
+        }
+        tally.add(answer);
+    }
+    tally.require(2000, &[0, 10]);
+    println!("refused before {closed}, by search {searched}; found at once {at_once}, else {back}");
+    assert!(closed.min(searched).min(at_once).min(back) >= 300);
+}
+
+#[test]
+fn special_networks() {
+    for special in special::all() {
+        let (answer, left) = SOLVE_BY_SKIPPING.compare(&Case::unwritten(special.rows));
+        let code = if special.feasible { 0 } else { 10 };
+        assert_eq!(answer.code, code, "{}", special.what);
+        if special.feasible {
+            assert_accepted(answer, &left);
+        }
+    }
 }
 
 /// Up to 64 events, 256 arcs and all periods.

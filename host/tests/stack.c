@@ -21,8 +21,8 @@ static void tie(uint32_t from, uint32_t to, int32_t ticks) {
 }
 
 /*
- * Each event up to the third last follows the one before it. The second last is bound to the last
- * alone, so each of its times from 0 on takes the search to its full depth until one is right.
+ * Each event up to the third last follows the one before it, and the second last is bound to the
+ * last alone. There is a timetable, so the search places all events: that is its full depth.
  */
 static void fill(void) {
     for (uint32_t event = 0; event < EVENTS; event++) periods[event] = PERIOD;

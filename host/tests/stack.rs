@@ -6,7 +6,7 @@ use std::path::Path;
 use std::process::{ExitStatus, Stdio};
 
 /// Enough, in bytes, for solve on any network and for a small program around it.
-const STACK: usize = 288 * 1024;
+const STACK: usize = 400 * 1024;
 
 /// What the system ends a program with that leaves its stack.
 const SEGMENTATION_FAULT: i32 = 11;

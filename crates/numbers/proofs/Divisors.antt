@@ -37,6 +37,11 @@ gcd-only {a} {b} p = gcd-one p (gcd-is a b)
 pub gcd-same : (a : ℕ) → gcd a a ≡ a
 gcd-same a = gcd-one (gcd-is a a) (record { left = dvd-refl a; right = dvd-refl a; greatest = λ d x y. x })
 
+pub gcd-turned : (a b : ℕ) → gcd a b ≡ gcd b a
+gcd-turned a b =
+    let p = gcd-is b a in
+    gcd-one (gcd-is a b) (record { left = p .right; right = p .left; greatest = λ d x y. p .greatest d y x })
+
 -- ---- its size
 
 pub gcd-pos : (a b : ℕ) → 0 < a → 0 < gcd a b

@@ -58,25 +58,25 @@ module _ (bars : List ℕ) (a near last shift run gap : ℕ) where
   not-second i h = not-third i (omega arith) ∙ other one (5 * a + 1) i last (λ e. omega arith)
 
   -- arcs before it are kept
-  put-before : (i : ℕ) → i < 5 * a → at five i ≡ at bars i
+  pub put-before : (i : ℕ) → i < 5 * a → at five i ≡ at bars i
   put-before i h = not-second i (omega arith) ∙ other bars (5 * a) i near (λ e. omega arith)
 
   module _ (h : 5 * a + 4 < length bars) where
-    put-near : nearIn five a ≡ near
+    pub put-near : nearIn five a ≡ near
     put-near = not-second (5 * a) (omega arith) ∙ getD-set-same bars (5 * a) near 0 (omega arith)
 
-    put-last : lastIn five a ≡ last
+    pub put-last : lastIn five a ≡ last
     put-last = not-third (5 * a + 1) (omega arith) ∙ getD-set-same one (5 * a + 1) last 0 (omega (arith, length-set bars (5 * a) near))
 
-    put-shift : shiftIn five a ≡ shift
+    pub put-shift : shiftIn five a ≡ shift
     put-shift = not-fourth (5 * a + 2) (omega arith) ∙ getD-set-same two (5 * a + 2) shift 0 (omega (arith, two-length))
 
-    put-run : runIn five a ≡ run
+    pub put-run : runIn five a ≡ run
     put-run =
         not-fifth (5 * a + 3) (omega arith)
         ∙ getD-set-same three (5 * a + 3) run 0 (omega (arith, length-set two (5 * a + 2) shift, two-length))
 
-    put-gap : gapIn five a ≡ gap
+    pub put-gap : gapIn five a ≡ gap
     put-gap = getD-set-same four (5 * a + 4) gap 0 (omega (arith, four-length))
 
 -- ---- the arcs of a network

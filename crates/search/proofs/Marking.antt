@@ -1,4 +1,4 @@
--- The laws of the marks: of one run, of a run in each lap, of an arc, of an event, and of the walk along them. Assumes nothing.
+-- The laws of the marks: of one run, of a run in each lap, of an arc, of an event, of the events that are blamed, and of the walk along them. Assumes nothing.
 use mathlib.Core.Path.{_≡_, refl, sym, ap, _∙_, subst}
 use mathlib.Core.Logic.{_⊎_, inl, inr}
 use mathlib.Core.List.{List, _++_}

@@ -1,5 +1,5 @@
 -- The network in unsigned numbers has the same feasible timetables. Assumes nothing.
-use mathlib.Core.Path.{_≡_, refl, sym, ap, _∙_, subst}
+use mathlib.Core.Path.{_≡_, sym, ap, _∙_}
 use mathlib.Core.List.{List}
 use mathlib.Core.Bool.{Bool, true, false, cond}
 use Prim.Native.Nat.{ℕ, _+_, _-_, _<_, _≤_}
@@ -9,30 +9,29 @@ use lib.IntN.{ℤ, pos, natAbs, _-ℤ_}
 use lib.ListN.{length}
 use lib.Dec.{leb}
 use borrow.Author.Tests.{lt-ltb, le-ltb, ltb-true, le-leb, lt-leb}
+use Rattle.numbers.specs.Divisor.{gcd}
 use Rattle.numbers.specs.Remainder.{Cong}
+use Rattle.numbers.proofs.Divisors.{gcd-turned}
 use Rattle.numbers.proofs.Integers.{up, dn, ofSub, ofAbs, absℤ}
 use Rattle.numbers.proofs.Congruence.{cong, parts, cong-refl, cong-sym, cong-trans, cong-sub}
 use Rattle.numbers.proofs.Remainders.{below-same, remainder-below, remainder-cong}
 use Rattle.network.specs.Network.{Network, arcs, period, tail, head, lower}
 use Rattle.numbers.specs.Row.{at}
 use Rattle.network.specs.PublicRule.{arcPeriod, slackBy, slack, met, working, widthOf, allowed, Feasible}
-use Rattle.network.specs.Table.{WellFormed}
 use Rattle.network.specs.Trial.{Sound, ArcOf}
 use Rattle.network.proofs.Arcs.{period-of}
 use Rattle.network.proofs.Sound.{sound, arc-period}
 use Rattle.network.proofs.Width.{width-is, width-below, met-width}
-use Rattle.search.specs.Looked.{Looked}
+use Rattle.search.specs.Looked.{Looked, Sought}
 use Rattle.search.specs.Looked.Looked.{found, nothing}
+use Rattle.search.specs.Looked.Sought.{least-fits, none-fits}
 use Rattle.search.specs.Reduced.{Reduced, reduced, past, metAt, metIn, Fitting, Barred, Sized, nearOf, lastOf, edgeOf, shiftOf, runOf, put, putArc, putArcs, BarsLent}
-use Rattle.search.specs.Threads.{ThreadAsks, Lent}
-use Rattle.search.specs.Steps.{Placed}
-use Rattle.search.proofs.Agreeing.{agree-none, agree-on}
 use Rattle.search.proofs.Bars.{BarIs, bar-is, arcs-length}
 
 -- ---- a slack s up to w, and how far a time is past its run, p: of g times the run leaves w and one more
 
 -- where the time rises with the slack, the run begins w and one more after the slack is 0
-later : {g w s p : ℕ} → w < g → s < g → p < g → Cong g (pos (p + (w + 1))) (pos s) → leb ((g - 1) - w) p ≡ leb s w
+pub later : {g w s p : ℕ} → w < g → s < g → p < g → Cong g (pos (p + (w + 1))) (pos s) → leb ((g - 1) - w) p ≡ leb s w
 later {g} {w} {s} {p} hw hs hp c = go (decLt (p + (w + 1)) g)
   where
     go : Dec (p + (w + 1) < g) → leb ((g - 1) - w) p ≡ leb s w
@@ -160,6 +159,21 @@ module _ {N : Network} {a : ℕ} (c : ArcOf N a) where
 
 -- ---- the same arcs met, the same feasible timetables
 
+-- the gap of an arc, by the periods at its ends in the order of their numbers
+gap-of : (N : Network) (a : ℕ) → arcPeriod N a ≡ gcd (period N (nearOf N a)) (period N (lastOf N a))
+unfolding arcPeriod
+gap-of N a = go (decLt (tail N a) (head N a))
+  where
+    go : Dec (tail N a < head N a) → gcd (period N (tail N a)) (period N (head N a)) ≡ gcd (period N (nearOf N a)) (period N (lastOf N a))
+    go (yes l) =
+        let n : tail N a ≡ nearOf N a = omega arith in
+        let m : head N a ≡ lastOf N a = omega arith in
+        λ j. gcd (period N (n j)) (period N (m j))
+    go (no f) =
+        let n : head N a ≡ nearOf N a = omega (arith, f) in
+        let m : tail N a ≡ lastOf N a = omega (arith, f) in
+        gcd-turned (period N (tail N a)) (period N (head N a)) ∙ (λ j. gcd (period N (n j)) (period N (m j)))
+
 module _ {N : Network} {bars : List ℕ} (lent : BarsLent N bars) where
   abbrev R : Reduced
   R = reduced (N .periods) (putArcs N bars (arcs N)) (arcs N)
@@ -172,7 +186,7 @@ module _ {N : Network} {bars : List ℕ} (lent : BarsLent N bars) where
 
   barred : Barred (length (N .periods)) (arcs N) (R .bars)
   barred = record {
-    few-arcs = has .even .few-arcs;
+    few-arcs = omega (arith, has .even .few-arcs);
     long = arcs-length N bars (arcs N) ∙ lent .long;
     near-is = λ a h. omega (arith, bar a h .near-is, bar a h .last-is, has .no-loop a h);
     last-is = λ a h. omega (arith, bar a h .last-is, has .ends a h .tail-in, has .ends a h .head-in);
@@ -183,7 +197,12 @@ module _ {N : Network} {bars : List ℕ} (lent : BarsLent N bars) where
   }
 
   pub sized : Sized R
-  sized = record { few = has .event-count .most; period-most = λ v h. has .periods v h .most; barred = barred }
+  sized = record {
+    few = has .event-count .most;
+    period-most = λ v h. has .periods v h .most;
+    barred = barred;
+    gap-is = λ a h. bar a h .gap-is ∙ gap-of N a ∙ (λ j. gcd (period N (sym (bar a h .near-is) j)) (period N (sym (bar a h .last-is) j)));
+  }
 
   met-same : (t : List ℕ) (a : ℕ) → a < arcs N → metIn (R .bars) t a ≡ met N t a
   unfolding metAt
@@ -207,31 +226,6 @@ module _ {N : Network} {bars : List ℕ} (lent : BarsLent N bars) where
   }
 
   -- what the search says of these rows it says of the network
-  pub looked : {t u : List ℕ} {B : List Bool} (r : Bool) → Placed R t 0 u B r → Looked N u r
-  looked {t} {u} true p =
-      let l = p .found refl in
-      found (record { feasible = feasible (l .feasible); least = λ v q s. l .least v (fitting q) (agree-none t v) s })
-  looked {t} {u} {B} false p = nothing (λ v q. p .none-left refl .never v (fitting q) (agree-on B (agree-none t v)))
-
--- ---- and of the rows of scratch, as calls leave them
-
-module _ {N : Network} {bars bars′ firsts nexts : List ℕ} (w : WellFormed N) (lent : Lent N bars firsts nexts) (e : bars′ ≡ putArcs N bars (arcs N)) where
-  bars-lent : BarsLent N bars
-  bars-lent = record { well = w; long = lent .bars-long }
-
-  pub thread-asks : ThreadAsks bars′ firsts nexts
-  thread-asks = record {
-    few = omega (arith, lent .firsts-long, sound N w .event-count .most);
-    barred = rw (lent .firsts-long, lent .nexts-long, e) (barred bars-lent);
-    empty = λ v h. omega (arith, lent .nexts-long, lent .empty v (omega (arith, lent .firsts-long)));
-  }
-
-  module _ {m : ℕ} (q : m ≡ length nexts) where
-    as-left : reduced (N .periods) (putArcs N bars (arcs N)) (arcs N) ≡ reduced (N .periods) bars′ m
-    as-left = sym (λ j. reduced (N .periods) (e j) ((q ∙ lent .nexts-long) j))
-
-    pub sized-left : Sized (reduced (N .periods) bars′ m)
-    sized-left = subst Sized as-left (sized bars-lent)
-
-    pub looked-left : {t u : List ℕ} {B : List Bool} (r : Bool) → Placed (reduced (N .periods) bars′ m) t 0 u B r → Looked N u r
-    looked-left {t} {u} {B} r p = looked bars-lent r (subst (λ (R : Reduced). Placed R t 0 u B r) (sym as-left) p)
+  pub looked : {t : List ℕ} (r : Bool) → Sought R t r → Looked N t r
+  looked true (least-fits f l) = found (record { feasible = feasible f; least = λ u q s. l u (fitting q) s })
+  looked false (none-fits n) = nothing (λ u q. n u (fitting q))

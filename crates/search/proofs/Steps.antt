@@ -13,10 +13,12 @@ use Rattle.numbers.specs.Row.{at}
 use Rattle.network.specs.PublicRule.{Smaller}
 use Rattle.network.proofs.Scans.{true-false}
 use Rattle.search.specs.Reduced.{Reduced, reduced, eventsIn, periodIn, nearIn, lastIn, metAt, metIn, Fitting, Sized}
-use Rattle.search.specs.Threads.{Threads}
-use Rattle.search.specs.Marks.{mark, Grown, Joined, EventAsks, Ruled, EventMarked, FirstFree}
+use Rattle.search.specs.Looked.{Sought}
+use Rattle.search.specs.Looked.Sought.{least-fits, none-fits}
+use Rattle.search.specs.Threads.{ThreadAsks, Threads, Lent}
+use Rattle.search.specs.Marks.{mark, Grown, Joined, EventAsks, EventMarked, FirstFree}
 use Rattle.search.specs.Steps.{Agree, AgreeOn, Partial, BlockedOn, Ready, LeastFrom, Placed, NoneIn, Turn, Next, Trying}
-use Rattle.search.proofs.Agreeing.{agree-refl, agree-sym, agree-trans, agree-fewer, agree-more, agree-set, agree-on, agree-ungrown, agree-deeper}
+use Rattle.search.proofs.Agreeing.{agree-none, agree-refl, agree-sym, agree-trans, agree-fewer, agree-more, agree-set, agree-on, agree-ungrown, agree-deeper}
 use Rattle.search.proofs.Marking.{fresh, fresh-empty, joined-first, joined-second}
 
 -- ---- the test of an arc goes by the times at its ends
@@ -268,3 +270,21 @@ start s l = record {
   most = omega arith;
   before = record { inside = λ i h. absurd (omega arith); met = λ a m x. absurd (omega arith) };
 }
+
+pub sought : {R : Reduced} {t u : List ℕ} {B : List Bool} (r : Bool) → Placed R t 0 u B r → Sought R u r
+sought {t = t} true p = let l = p .found refl in least-fits (l .feasible) (λ v f s. l .least v f (agree-none t v) s)
+sought {t = t} {B = B} false p = none-fits (λ v f. p .none-left refl .never v f (agree-on B (agree-none t v)))
+
+-- ---- and the rows of scratch
+
+module _ {R : Reduced} {firsts nexts : List ℕ} {B : List Bool} (s : Sized R) (lent : Lent R firsts nexts B) where
+  pub thread-asks : ThreadAsks (R .bars) firsts nexts
+  thread-asks = record {
+    few = omega (arith, lent .firsts-long, s .few);
+    barred = rw (lent .firsts-long, lent .nexts-long) (s .barred);
+    empty = λ v h. omega (arith, lent .nexts-long, lent .empty v (omega (arith, lent .firsts-long)));
+  }
+
+  -- with the number of arcs told by the length of their row
+  pub as-lent : {m : ℕ} → m ≡ length nexts → R ≡ reduced (R .periods) (R .bars) m
+  as-lent q = sym (λ j. reduced (R .periods) (R .bars) ((q ∙ lent .nexts-long) j))

@@ -12,11 +12,11 @@ use Rattle.numbers.specs.Row.{at}
 use Rattle.search.specs.Reduced.{lastIn}
 use Rattle.search.specs.Threads.{Following, ThreadedFrom, Threaded, ThreadAsks, Threading}
 
--- 256 stands for no arc
-pub no-arc : {m : ℕ} (n v : ℕ) → n ≤ 64 → v < n → m ≤ 256 → m ≤ at (take n (replicate 64 256)) v
+-- 2,272 stands for no arc
+pub no-arc : {m : ℕ} (n v : ℕ) → n ≤ 64 → v < n → m ≤ 2272 → m ≤ at (take n (replicate 64 2272)) v
 no-arc n v h l q =
-    let none : List ℕ = replicate 64 256 in
-    omega (arith, getD-take {A = ℕ} n none v 0 l, getD-replicate {A = ℕ} 64 v 256 0 (omega arith))
+    let none : List ℕ = replicate 64 2272 in
+    omega (arith, getD-take {A = ℕ} n none v 0 l, getD-replicate {A = ℕ} 64 v 2272 0 (omega arith))
 
 pub threading-first : {bars firsts nexts : List ℕ} → ThreadAsks bars firsts nexts → Threading bars firsts nexts firsts nexts (length nexts)
 threading-first c = record {

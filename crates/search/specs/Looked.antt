@@ -1,12 +1,14 @@
--- What the search finds: the smallest feasible timetable, or that there is none. Definitions alone.
+-- What the search finds: the smallest timetable that fits a network in unsigned numbers, and so the smallest feasible one of the network; or that there is
+-- none. Definitions alone.
 use mathlib.Core.Path.{_≡_}
 use mathlib.Core.List.{List}
 use mathlib.Core.Bool.{Bool, true, false}
 use Prim.Native.Nat.{ℕ}
 use lib.ListN.{length}
 use Rattle.network.specs.Network.{Network, events}
-use Rattle.network.specs.PublicRule.{Feasible, Smallest}
+use Rattle.network.specs.PublicRule.{Feasible, Smaller, Smallest}
 use Rattle.network.specs.Table.{WellFormed}
+use Rattle.search.specs.Reduced.{Reduced, eventsIn, Fitting, Sized}
 
 -- of a network, the row as it is left, and the answer
 pub data Looked (N : Network) (t : List ℕ) : Bool → Type 0 where
@@ -17,3 +19,12 @@ pub data Looked (N : Network) (t : List ℕ) : Bool → Type 0 where
 pub record Asked (N : Network) (t : List ℕ) : Type 0 where
   pub well : WellFormed N
   pub long : length t ≡ events N
+
+-- the same of a network in unsigned numbers
+pub data Sought (R : Reduced) (t : List ℕ) : Bool → Type 0 where
+  least-fits : Fitting R t → ((u : List ℕ) → Fitting R u → Smaller u t → ⊥) → Sought R t true
+  none-fits : ((u : List ℕ) → Fitting R u → ⊥) → Sought R t false
+
+pub record Seeks (R : Reduced) (t : List ℕ) : Type 0 where
+  pub sized : Sized R
+  pub long : length t ≡ eventsIn R

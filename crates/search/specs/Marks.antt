@@ -60,7 +60,7 @@ pub record RunsTurn (gap start run : ℕ) (row row′ : List Bool) (fresh : Bool
 -- ---- the times that one arc rules out at its later end
 
 pub record ArcAsks (bars t : List ℕ) (a : ℕ) (row : List Bool) : Type 0 where
-  pub few-arcs : a < 256
+  pub few-arcs : a < 2272
   pub arc : 5 * a + 4 < length bars
   pub near-is : nearIn bars a < length t
   pub time : at t (nearIn bars a) ≤ 3600

@@ -8,6 +8,7 @@ use lib.IntN.{ℤ, pos, _-ℤ_}
 use lib.ListN.{length, set}
 use lib.Dec.{leb, ltb}
 use denote.Ref.{RefT, now}
+use Rattle.numbers.specs.Divisor.{gcd}
 use Rattle.network.specs.Network.{Network, events, arcs, tail, head, lower}
 use Rattle.numbers.specs.Row.{at}
 use Rattle.network.specs.PublicRule.{arcPeriod, slackBy, working, widthOf}
@@ -66,7 +67,7 @@ pub record Fitting (R : Reduced) (t : List ℕ) : Type 0 where
 
 -- m arcs between n events that the search can work on
 pub record Barred (n m : ℕ) (bars : List ℕ) : Type 0 where
-  pub few-arcs : m ≤ 256
+  pub few-arcs : m ≤ 2272
   pub long : length bars ≡ 5 * m
   pub near-is : (a : ℕ) → a < m → nearIn bars a < lastIn bars a
   pub last-is : (a : ℕ) → a < m → lastIn bars a < n
@@ -78,6 +79,7 @@ pub record Sized (R : Reduced) : Type 0 where
   pub few : eventsIn R ≤ 64
   pub period-most : (v : ℕ) → v < eventsIn R → periodIn R v ≤ 3600
   pub barred : Barred (eventsIn R) (R .arcs) (R .bars)
+  pub gap-is : (a : ℕ) → a < R .arcs → gapIn (R .bars) a ≡ gcd (periodIn R (nearIn (R .bars) a)) (periodIn R (lastIn (R .bars) a))
 
 -- the ends of arc a in the order of their numbers
 abbrev pub nearOf : Network → ℕ → ℕ
@@ -112,7 +114,7 @@ putArcs N bars (suc m) = putArc N (putArcs N bars m) m
 
 -- a row with room for the five
 pub record PutAsks (bars : List ℕ) (a : ℕ) : Type 0 where
-  pub few : a < 256
+  pub few : a < 2272
   pub arc : 5 * a + 4 < length bars
 
 -- a row with five entries for each arc

@@ -2,11 +2,11 @@
 -- the same later end. Definitions alone.
 use mathlib.Core.Path.{_≡_}
 use mathlib.Core.List.{List}
-use Prim.Native.Nat.{ℕ, _+_, _*_, _<_, _≤_}
+use mathlib.Core.Bool.{Bool}
+use Prim.Native.Nat.{ℕ, _+_, _<_, _≤_}
 use lib.ListN.{length}
-use Rattle.network.specs.Network.{Network, events, arcs}
 use Rattle.numbers.specs.Row.{at}
-use Rattle.search.specs.Reduced.{lastIn, Barred}
+use Rattle.search.specs.Reduced.{Reduced, eventsIn, lastIn, Barred}
 
 -- of m arcs, r is the first from c on whose later end is event v; or it is m or more, and there is none
 pub record Following (bars : List ℕ) (m v c r : ℕ) : Type 0 where
@@ -40,9 +40,9 @@ pub record Threads (periods bars firsts nexts : List ℕ) : Type 0 where
   pub firsts-long : length firsts ≡ length periods
   pub threaded : Threaded bars firsts nexts
 
--- the three rows of scratch: five entries for each arc, no arc yet at each event, an entry for each arc
-pub record Lent (N : Network) (bars firsts nexts : List ℕ) : Type 0 where
-  pub bars-long : length bars ≡ 5 * arcs N
-  pub firsts-long : length firsts ≡ events N
-  pub nexts-long : length nexts ≡ arcs N
-  pub empty : (v : ℕ) → v < events N → arcs N ≤ at firsts v
+-- the three rows of scratch: no arc yet at each event, an entry for each arc, 64 for the blame
+pub record Lent (R : Reduced) (firsts nexts : List ℕ) (B : List Bool) : Type 0 where
+  pub firsts-long : length firsts ≡ eventsIn R
+  pub nexts-long : length nexts ≡ R .arcs
+  pub empty : (v : ℕ) → v < eventsIn R → R .arcs ≤ at firsts v
+  pub blame-long : length B ≡ 64

@@ -11,7 +11,7 @@ use network::rule::width;
 use network::rule::working;
 
 // Writes the five numbers of an arc side by side.
-fn put(bars: &mut [u32], arc: usize, near: u32, last: u32, shift: u32, run: u32, gap: u32)
+pub fn put(bars: &mut [u32], arc: usize, near: u32, last: u32, shift: u32, run: u32, gap: u32)
     requires { ⌜ PutAsks (now bars) arc ⌝ }
     ensures { λ _. ⌜ now (bars .exit) ≡ putOf (now (bars .entry)) arc near last shift run gap ⌝ }
 {

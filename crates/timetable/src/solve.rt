@@ -20,7 +20,7 @@ fn settle(
     requires { ⌜ Lent (netOf periods tail head lower upper weight) (now row) (now times) (arcRowsOf tensions turns) ⌝ }
     ensures { λ r. ⌜ Found (netOf (periods .entry) (tail .entry) (head .entry) (lower .entry) (upper .entry) (weight .entry)) (now (times .entry)) (arcRowsOf (tensions .entry) (turns .entry)) (now (times .exit)) (arcRowsOf (tensions .exit) (turns .exit)) r ⌝ }
 {
-    if !search::smallest(periods, tail, head, lower, upper, weight, row) {
+    if !closure::smallest(periods, tail, head, lower, upper, weight, row) {
         return network::refused(10, 0);
     }
     network::rule::note_times(&row[..], times);

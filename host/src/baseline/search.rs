@@ -1,64 +1,12 @@
 //! solve's search: event after event, each at its first time that no arc to an earlier one rules
 //! out. From an event that can't be placed it goes back to the last one that had a part in that.
 
-use super::{arc_period, working_upper};
+use super::bar::Bar;
+use super::closure::{longer, MOST};
 use crate::network::Network;
 
 /// Stands for no arc.
-const NONE: u32 = 256;
-
-/// What an arc rules out at its later end: in each lap of `gap` ticks a run of `run` times, which
-/// begins `shift` after the time at its earlier end, `near`.
-#[derive(Clone, Copy, Default)]
-struct Bar {
-    near: u32,
-    shift: u32,
-    run: u32,
-    gap: u32,
-}
-
-impl Bar {
-    fn new(network: &Network, arc: usize) -> Self {
-        let (tail, head) = (network.tail[arc], network.head[arc]);
-        let gap = arc_period(network, arc);
-        let (low, high) = (network.lower[arc], working_upper(network, arc, gap));
-        let shift = if tail < head { high + 1 } else { 1 - low };
-        Bar {
-            near: tail.min(head),
-            shift: shift.rem_euclid(gap as i32) as u32,
-            run: gap - 1 - (high - low) as u32,
-            gap,
-        }
-    }
-
-    /// Marks the times ruled out, by one division; had one of them no mark before?
-    fn mark(&self, times: &[u32], row: &mut [bool]) -> bool {
-        let (run, gap) = (self.run as usize, self.gap as usize);
-        let start = ((times[self.near as usize] + self.shift) % self.gap) as usize;
-        let mut fresh = false;
-        // The run of the lap before may reach into the row.
-        if start + run > gap {
-            fresh = mark_run(&mut row[..start + run - gap]);
-        }
-        let mut from = start;
-        while from < row.len() {
-            let end = row.len().min(from + run);
-            fresh |= mark_run(&mut row[from..end]);
-            from += gap;
-        }
-        fresh
-    }
-}
-
-/// Had a place of the run no mark before?
-fn mark_run(run: &mut [bool]) -> bool {
-    let mut fresh = false;
-    for place in run {
-        fresh |= !*place;
-        *place = true;
-    }
-    fresh
-}
+const NONE: u32 = MOST as u32;
 
 /// What is counted on the way.
 trait Count {
@@ -72,10 +20,12 @@ impl Count for () {
     fn add_division(&mut self) {}
 }
 
-/// How large a search is: its nodes are the events whose row is marked, each time anew, and each
-/// arc that is marked there costs a division.
+/// How large a search is: how many arcs it has, the closure's and the network's own; its nodes are
+/// the events whose row is marked, each time anew, and each arc that is marked there costs a
+/// division. All are 0 where the closure alone has the answer.
 #[derive(Default)]
 pub struct Size {
+    pub arcs: usize,
     pub nodes: u64,
     pub divisions: u64,
 }
@@ -97,37 +47,46 @@ type Blame = [bool; 64];
 /// each event that it is the later end of, and the next arc with the same later end.
 struct Search<'a, C> {
     periods: &'a [u32],
-    bars: [Bar; 256],
+    bars: &'a [Bar],
     firsts: [u32; 64],
-    nexts: [u32; 256],
+    nexts: [u32; MOST],
     count: C,
 }
 
 pub fn smallest(network: &Network, times: &mut [u32]) -> bool {
-    Search::new(network, ()).place(times, 0, &mut [false; 64])
+    let mut bars = [Bar::default(); MOST];
+    let Some(bars) = longer(network, &mut bars) else {
+        return false;
+    };
+    Search::new(network.periods, bars, ()).place(times, 0, &mut [false; 64])
 }
 
 /// The size of solve's search on a network that is in order.
 pub fn search_size(network: &Network) -> Size {
-    let mut search = Search::new(network, Size::default());
-    search.place(&mut [0; 64], 0, &mut [false; 64]);
-    search.count
+    let mut size = Size::default();
+    let mut bars = [Bar::default(); MOST];
+    if let Some(bars) = longer(network, &mut bars) {
+        size.arcs = bars.len();
+        let mut search = Search::new(network.periods, bars, size);
+        search.place(&mut [0; 64], 0, &mut [false; 64]);
+        size = search.count;
+    }
+    size
 }
 
 impl<'a, C: Count> Search<'a, C> {
-    fn new(network: &Network<'a>, count: C) -> Self {
+    fn new(periods: &'a [u32], bars: &'a [Bar], count: C) -> Self {
         let mut search = Search {
-            periods: network.periods,
-            bars: [Bar::default(); 256],
+            periods,
+            bars,
             firsts: [NONE; 64],
-            nexts: [NONE; 256],
+            nexts: [NONE; MOST],
             count,
         };
-        for arc in (0..network.tail.len()).rev() {
-            search.bars[arc] = Bar::new(network, arc);
-            let later = network.tail[arc].max(network.head[arc]) as usize;
-            search.nexts[arc] = search.firsts[later];
-            search.firsts[later] = arc as u32;
+        for (arc, bar) in bars.iter().enumerate().rev() {
+            let last = bar.last as usize;
+            search.nexts[arc] = search.firsts[last];
+            search.firsts[last] = arc as u32;
         }
         search
     }

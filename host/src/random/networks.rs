@@ -91,7 +91,7 @@ pub(super) fn build(random: &mut Random, periods: Vec<u32>, m: usize, met: bool)
 }
 
 /// Draws the times, and `m` arcs beside them, or fewer where the rest would be repeats.
-fn fill(
+pub(super) fn fill(
     random: &mut Random,
     periods: Vec<u32>,
     m: usize,
@@ -146,7 +146,7 @@ fn arc(random: &mut Random, rows: &Rows, times: &[u32], met: bool) -> Arc {
 }
 
 /// Two different events; now and then those of an earlier arc, for parallel arcs and short loops.
-fn ends(random: &mut Random, rows: &Rows) -> (u32, u32) {
+pub(super) fn ends(random: &mut Random, rows: &Rows) -> (u32, u32) {
     let (n, m) = (rows.periods.len(), rows.tail.len());
     if m > 0 && random.one_in(5) {
         let arc = random.below(m);

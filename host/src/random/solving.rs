@@ -1,8 +1,10 @@
 //! Networks for solve: few timetables, and a row of times to be written.
 
-use super::networks::build;
+use super::networks::{build, ends, fill, weight};
 use super::Random;
 use crate::compare::Case;
+use crate::network::Arc;
+use crate::reference::common_divisor;
 
 /// Few timetables, with and without a feasible one, and rows for solve to write.
 pub fn small(random: &mut Random) -> Case {
@@ -15,6 +17,44 @@ pub fn small(random: &mut Random) -> Case {
     let met = random.one_in(3);
     let case = build(random, periods, m, met);
     unsolved(random, case)
+}
+
+/// Few events and many arcs, with and without a feasible timetable, and rows for solve to write.
+/// Periods mostly share a divisor, so that the arcs tell something of one another.
+pub fn dense(random: &mut Random) -> Case {
+    let choices: &[u32] = random.pick(&[&[12], &[4, 8, 12], &[2, 3, 4, 6, 12], &[5, 10], &[7, 9]]);
+    let (periods, m) = many_arcs(random, choices);
+    let met = random.one_in(3);
+    let case = build(random, periods, m, met);
+    unsolved(random, case)
+}
+
+/// The same with arcs that rule out less than half of the times each, and not none, of which little
+/// follows before the search.
+pub fn loose(random: &mut Random) -> Case {
+    let choices: &[u32] = random.pick(&[&[3], &[4], &[5], &[6], &[3, 6], &[4, 8, 12]]);
+    let (periods, m) = many_arcs(random, choices);
+    let case = fill(random, periods, m, |random, rows, _| {
+        let (tail, head) = ends(random, rows);
+        let period = |event: u32| rows.periods[event as usize];
+        let g = i64::from(common_divisor(period(tail), period(head)));
+        let lower = random.between(-g, g);
+        Arc {
+            tail,
+            head,
+            lower: lower as i32,
+            upper: (lower + random.between(g / 2, g - 2)) as i32,
+            weight: weight(random),
+        }
+    });
+    unsolved(random, case)
+}
+
+/// The periods of 3 to 5 events, and how many arcs there are between them.
+fn many_arcs(random: &mut Random, choices: &[u32]) -> (Vec<u32>, usize) {
+    let n = random.between(3, 5);
+    let periods = (0..n).map(|_| random.pick(choices)).collect();
+    (periods, random.between(6, 12) as usize)
 }
 
 /// As `linked`, but with few timetables and rows for solve to write.

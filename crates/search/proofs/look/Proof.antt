@@ -1,35 +1,27 @@
--- `search::look` meets its contract: what the search finds for the reduced rows it finds for the network. Assumes nothing.
-use mathlib.Core.Path.{_∙_}
+-- `search::look` meets its contract: it threads the arcs and places event 0. Assumes nothing.
+use mathlib.Core.Path.{sym, subst, _∙_}
 use borrow.Author.Needs.{needs}
-use Rattle.search.proofs.Steps.{start}
-use Rattle.search.proofs.Reducing.{thread-asks, sized-left, looked-left}
+use Rattle.search.specs.Reduced.{Reduced, Sized}
+use Rattle.search.specs.Looked.{Sought}
+use Rattle.search.proofs.Steps.{start, sought, thread-asks, as-lent}
 use Rattle.search.proofs.look.Statement.{statement}
 use Rattle.search.proofs.look.Tie as tie
 
-abbrev entry : tie.After-reduce → tie.Start
-entry c = c .before .before .before .before .before .before .before .before .before .before .before
-
-abbrev reduced : tie.After-thread → tie.After-reduce
-reduced c = c .before .before .before .before .before .before
-
-reduce-requires : tie.Need-reduce-requires
-reduce-requires c κs =
-    let p = c .before .before .before .before .before .before .before .before .before .before .pre in
-    record { well = p .0 .well; long = p .1 .0 .bars-long }
+abbrev entry : tie.After-thread → tie.Start
+entry c = c .before .before .before .before .before .before .before .before .before
 
 thread-requires : tie.Need-thread-requires
 thread-requires c κs =
-    let r = c .before .before .before .before .before in
-    let p = entry r .pre in
-    thread-asks (p .0 .well) (p .1 .0) (r .reduce .ensures)
+    let p = c .before .before .before .before .before .before .before .before .pre in
+    thread-asks (p .0 .sized) (p .1)
 
 place-requires : tie.Need-place-requires
 place-requires c κs =
-    let h = c .before .before .before .before .before .before .before .before .before in
-    let r = reduced h in
-    let p = entry r .pre in (
-      start (sized-left (p .0 .well) (p .1 .0) (r .reduce .ensures) (h .thread .kept .1 .1 .0)) (p .0 .long),
-      (record { firsts-long = h .thread .kept .1 .0 ∙ p .1 .0 .firsts-long; threaded = h .thread .ensures }, p .1 .1),
+    let h = c .before .before .before .before .before .before .before .before in
+    let p = entry h .pre in
+    let e = as-lent (p .0 .sized) (p .1) (h .thread .kept .1 .1 .0) in (
+      start (subst Sized e (p .0 .sized)) (p .0 .long),
+      (record { firsts-long = h .thread .kept .1 .0 ∙ p .1 .firsts-long; threaded = h .thread .ensures }, p .1 .blame-long),
     )
 
 same-length : tie.Need-same-length
@@ -44,27 +36,22 @@ same-length-3 c = search needs
 same-length-4 : tie.Need-same-length-4
 same-length-4 c = search needs
 
-same-length-5 : tie.Need-same-length-5
-same-length-5 c = search needs
-
 returns : tie.Need-returns
 returns c =
     let f = c .before .before .before .before in
-    let h = f .before .before .before .before .before .before .before .before .before .before in
-    let r = reduced h in
-    let p = entry r .pre in
-    looked-left (p .0 .well) (p .1 .0) (r .reduce .ensures) (h .thread .kept .1 .1 .0) _ (f .place .ensures)
+    let h = f .before .before .before .before .before .before .before .before .before in
+    let p = entry h .pre in
+    let e = as-lent (p .0 .sized) (p .1) (h .thread .kept .1 .1 .0) in
+    subst (λ (R : Reduced). Sought R (f .place .last .1 .1 .1 .1 .0) (f .place .result)) (sym e) (sought _ (f .place .ensures))
 
 pub look-spec : {M : Type 1} → statement M
 look-spec =
     tie.close
     (tie.spec
-    reduce-requires
     thread-requires
     place-requires
     same-length
     same-length-2
     same-length-3
     same-length-4
-    same-length-5
     returns)

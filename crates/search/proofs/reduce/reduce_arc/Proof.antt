@@ -26,7 +26,7 @@ here : (s : tie.Start) → ArcOf (N s) (s .args .arc)
 here s = record { sound = sound (N s) (s .pre .lent .well); arc = s .pre .arc }
 
 room : (s : tie.Start) → PutAsks (s .args .bars .now) (s .args .arc)
-room s = record { few = arc-small (here s); arc = omega (arith, s .pre .lent .long, s .pre .arc) }
+room s = record { few = omega (arith, arc-small (here s)); arc = omega (arith, s .pre .lent .long, s .pre .arc) }
 
 -- the bounds as they are handed on
 low : (c : tie.After-bound) → toZ w32 (ofZ w32 (c .bound .result)) ≡ lower (N (start (c .before))) (start (c .before) .args .arc)

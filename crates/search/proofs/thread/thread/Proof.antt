@@ -23,7 +23,7 @@ arc c = c .before .loop .arc - 1
 below : (c : tie.In-loop Inv-loop μ-loop) → c .before .loop .arc ≡ arc c + 1
 below c = omega (arith, c .loop-test .taken)
 
-few : (c : tie.In-loop Inv-loop μ-loop) → arc c < 256
+few : (c : tie.In-loop Inv-loop μ-loop) → arc c < 2272
 few c =
     let l = c .before in
     omega (arith, c .loop-test .taken, l .loop .inv .most, start l .pre .barred .few-arcs)

@@ -1,0 +1,78 @@
+// The table of spans for the arcs of a network.
+ghost use Rattle.search.specs.Reduced.{reduced, Fitting};
+ghost use Rattle.closure.specs.Tables.{tableOf, ArcsAsk, ArcAsks, Tighter, SpreadAsks, Spread};
+use crate::table::close;
+use crate::table::narrow;
+use crate::table::widen;
+use network::rule::entry;
+
+// Narrows the span of an arc's ends by the arc: all but its run of barred times.
+fn add_arc(
+    periods: &[u32],
+    bars: &[u32],
+    m: usize,
+    lows: &mut [u32],
+    widths: &mut [u32],
+    gaps: &[u32],
+    arc: usize,
+) -> u32
+    requires { ⌜ ArcAsks (reduced (now periods) (now bars) m) (tableOf lows widths gaps) arc ⌝ }
+    ensures { λ r. ⌜ Tighter (Fitting (reduced (now (periods .entry)) (now (bars .entry)) m)) (now (periods .entry)) (tableOf (lows .entry) (widths .entry) (gaps .entry)) (tableOf (lows .exit) (widths .exit) (gaps .entry)) r ⌝ }
+{
+    let at = 5 * arc;
+    let run = bars[at + 3];
+    let gap = bars[at + 4];
+    let low = (bars[at + 2] + run) % gap;
+    narrow(
+        lows,
+        widths,
+        gaps,
+        entry(bars, at),
+        entry(bars, at + 1),
+        low,
+        gap - 1 - run,
+    )
+}
+
+// Narrows by every arc: 0 if nothing is left.
+fn add_arcs(
+    periods: &[u32],
+    bars: &[u32],
+    m: usize,
+    lows: &mut [u32],
+    widths: &mut [u32],
+    gaps: &[u32],
+) -> u32
+    requires { ⌜ ArcsAsk (reduced (now periods) (now bars) m) (tableOf lows widths gaps) ⌝ }
+    ensures { λ r. ⌜ Tighter (Fitting (reduced (now (periods .entry)) (now (bars .entry)) m)) (now (periods .entry)) (tableOf (lows .entry) (widths .entry) (gaps .entry)) (tableOf (lows .exit) (widths .exit) (gaps .entry)) r ⌝ }
+{
+    let mut arc = 0;
+    while arc < m {
+        let r = add_arc(periods, bars, m, lows, widths, gaps, arc);
+        if r == 0 {
+            return 0;
+        }
+        arc += 1;
+    }
+    1
+}
+
+// Makes the table and closes it: 0 if nothing fits.
+pub fn spread(
+    periods: &[u32],
+    bars: &[u32],
+    m: usize,
+    lows: &mut [u32],
+    widths: &mut [u32],
+    gaps: &mut [u32],
+) -> u32
+    requires { ⌜ SpreadAsks (reduced (now periods) (now bars) m) (tableOf lows widths gaps) ⌝ }
+    ensures { λ r. ⌜ Spread (reduced (now (periods .entry)) (now (bars .entry)) m) (tableOf (lows .exit) (widths .exit) (gaps .exit)) r ⌝ }
+{
+    widen(periods, lows, widths, gaps);
+    let left = add_arcs(periods, bars, m, lows, widths, &gaps[..]);
+    if left == 0 {
+        return 0;
+    }
+    close(periods, lows, widths, &gaps[..])
+}
