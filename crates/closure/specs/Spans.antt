@@ -10,6 +10,7 @@ use Rattle.closure.specs.declared.Span.{Span}
 pub record Within (gap low width from to : ℕ) : Type 0 where
   pub most : slackBy gap (pos low) from to ≤ width
 
+-- the numbers of a span that holds some difference
 pub record Shape (gap low width : ℕ) : Type 0 where
   pub gap-most : gap ≤ 3600
   pub low-below : low < gap
@@ -23,6 +24,7 @@ turnedOf gap low width = (2 * gap - (low + width)) % gap
 abbrev pub behindOf : ℕ → ℕ → ℕ → ℕ
 behindOf gap low other = (other + gap - low) % gap
 
+-- two spans by one gap
 pub record CutAsks (gap low width other wide : ℕ) : Type 0 where
   pub old : Shape gap low width
   pub new : Shape gap other wide

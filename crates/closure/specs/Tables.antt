@@ -60,6 +60,7 @@ pub record Periodic (periods : List ℕ) : Type 0 where
   pub some : (v : ℕ) → v < length periods → 0 < at periods v
   pub most : (v : ℕ) → v < length periods → at periods v ≤ 3600
 
+-- and three rows for it
 pub record OpenAsks (periods : List ℕ) (T : Table) : Type 0 where
   pub periodic : Periodic periods
   pub roomy : Roomy T
@@ -88,12 +89,14 @@ pub record WidenAsks (periods : List ℕ) (T : Table) (i : ℕ) : Type 0 where
   pub event : i < length periods
   pub before : Widening periods T i 0
 
+-- at the end: a table that any times keep to
 pub record Opened (periods : List ℕ) (T : Table) : Type 0 where
   pub shaped : Shaped periods T
   pub all : (u : List ℕ) → Keeps periods T u
 
 -- ---- one span narrowed by another
 
+-- the span of i and j in its place, and another by the same gap
 pub record NarrowAsks (T : Table) (i j low width : ℕ) : Type 0 where
   pub roomy : Roomy T
   pub first : i < 64

@@ -65,7 +65,7 @@ pub record Fitting (R : Reduced) (t : List ℕ) : Type 0 where
   pub inside : (v : ℕ) → v < eventsIn R → at t v < periodIn R v
   pub met : (a : ℕ) → a < R .arcs → metIn (R .bars) t a ≡ true
 
--- m arcs between n events that the search can work on
+-- m arcs between n events that the search can work on: 256 of a network, and one more for each two of 64 events
 pub record Barred (n m : ℕ) (bars : List ℕ) : Type 0 where
   pub few-arcs : m ≤ 2272
   pub long : length bars ≡ 5 * m
