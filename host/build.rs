@@ -5,7 +5,9 @@ use std::path::{Path, PathBuf};
 use std::process::Command;
 use std::{env, fs};
 
+/// The calls, and what the tests measure of the closure.
 const ARCHIVE: &str = "../target/staticlib/librubblewaltz.a";
+const GAUGE: &str = "../target/staticlib/libgauge.a";
 
 /// How a C program is compiled for x86-64, without its C library: start.c stands in for that.
 const CROSS_COMPILER: [&str; 7] = [
@@ -21,13 +23,13 @@ const CROSS_COMPILER: [&str; 7] = [
 fn main() {
     println!("cargo::rustc-check-cfg=cfg(bridged)");
     println!("cargo::rerun-if-changed={ARCHIVE}");
-    match fs::read(ARCHIVE) {
-        Err(_) => println!(
-            "cargo::error={} is absent: run rt staticlib rubblewaltz",
-            &ARCHIVE[3..]
+    println!("cargo::rerun-if-changed={GAUGE}");
+    match (fs::read(ARCHIVE), fs::read(GAUGE)) {
+        (Ok(bytes), Ok(_)) if is_native(&bytes) => link(),
+        (Ok(_), Ok(_)) => build_bridge(),
+        _ => println!(
+            "cargo::error=an archive is absent: run rt staticlib rubblewaltz and rt staticlib gauge"
         ),
-        Ok(bytes) if is_native(&bytes) => link(),
-        Ok(_) => build_bridge(),
     }
 }
 
@@ -47,6 +49,7 @@ fn link() {
     let folder = folder.parent().expect("the archive's folder");
     println!("cargo::rustc-link-search=native={}", folder.display());
     println!("cargo::rustc-link-lib=static=rubblewaltz");
+    println!("cargo::rustc-link-lib=static=gauge");
     println!("cargo::rustc-env=RUBBLEWALTZ_CC=cc");
     println!("cargo::rustc-env=RUBBLEWALTZ_EMULATOR=");
 }
@@ -60,7 +63,7 @@ fn build_bridge() {
     let compiled = Command::new(CROSS_COMPILER[0])
         .args(&CROSS_COMPILER[1..])
         .args(["-O2", "-Wall", "-Wextra", "-Werror", "-I../include"])
-        .args(["bridge/serve.c", ARCHIVE, "-o"])
+        .args(["bridge/serve.c", ARCHIVE, GAUGE, "-o"])
         .arg(&server)
         .status();
     if !compiled.is_ok_and(|status| status.success()) {

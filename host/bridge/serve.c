@@ -6,8 +6,20 @@
  */
 #include "rubblewaltz.h"
 
+/* What the closure shows to the tests; no part of the interface. */
+struct rubblewaltz_gauge {
+    uint32_t code, rounds;
+    uint64_t arcs;
+};
+
+struct rubblewaltz_gauge rubblewaltz_gauge(
+    const uint32_t *periods, size_t periods_len, const uint32_t *tail, size_t tail_len,
+    const uint32_t *head, size_t head_len, const int32_t *lower, size_t lower_len,
+    const int32_t *upper, size_t upper_len, const uint32_t *weight, size_t weight_len,
+    uint32_t *longer, size_t longer_len);
+
 enum { ROWS = 9, FENCE = 8, SPACE = 1 << 18 };
-enum { CHECK, MEASURE, SOLVE, REBUILD, READ, PRINT };
+enum { CHECK, MEASURE, SOLVE, REBUILD, READ, PRINT, GAUGE };
 enum { READ_CALL = 0, WRITE_CALL = 1, INPUT = 0, OUTPUT = 1 };
 
 static struct {
@@ -54,9 +66,14 @@ static size_t place_rows(void *row[ROWS]) {
 #define TENSIONS WORDS(7)
 #define TURNS WORDS(8)
 #define TEXTS BYTES(6), BYTES(7)
+#define LONGER WORDS(6)
 
 static struct rubblewaltz_filled widened(struct rubblewaltz_answer answer) {
     return (struct rubblewaltz_filled){answer.code, answer.place, answer.cost, 0, 0};
+}
+
+static struct rubblewaltz_filled gauged(struct rubblewaltz_gauge gauge) {
+    return (struct rubblewaltz_filled){gauge.code, gauge.rounds, gauge.arcs, 0, 0};
 }
 
 static struct rubblewaltz_filled answer(void *row[ROWS]) {
@@ -67,6 +84,7 @@ static struct rubblewaltz_filled answer(void *row[ROWS]) {
     case REBUILD: return widened(rubblewaltz_rebuild(NETWORK, TENSIONS, TIMES));
     case READ: return rubblewaltz_read(TEXTS, NETWORK);
     case PRINT: return rubblewaltz_print(NETWORK, TEXTS);
+    case GAUGE: return gauged(rubblewaltz_gauge(NETWORK, LONGER));
     }
     return (struct rubblewaltz_filled){UINT32_MAX, 0, 0, 0, 0};
 }

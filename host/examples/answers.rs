@@ -51,7 +51,7 @@ fn print_head(solvers: &[Solver]) {
     if solvers.is_empty() {
         println!("No SAT solver is on the path.");
     }
-    print!("network           answer        nodes  archive ms safe Rust ms  ratio");
+    print!("network           answer        steps  archive ms safe Rust ms  ratio");
     for solver in solvers {
         print!("{:>12}", format!("{} ms", solver.name));
     }
@@ -74,7 +74,7 @@ fn report(known: &Known, solvers: &[Solver]) -> Measured {
     print!(
         "{:<18}{answer:<10}{:>9}{archive:>12.3}{baseline:>13.3}{:>7}",
         known.name,
-        baseline::search_size(&network).nodes,
+        baseline::search_size(&network).steps,
         ratio(archive, baseline)
     );
     if !solvers.is_empty() {

@@ -6,7 +6,9 @@ mod repeat;
 mod search;
 mod text;
 
-pub use search::{search_size, Size};
+pub use bar::Bar;
+pub use closure::{longer, Closed, MOST};
+pub use search::{search_size, size_over, Size};
 pub use text::{print, read};
 
 use crate::network::{Answer, Network};

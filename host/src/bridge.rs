@@ -1,7 +1,7 @@
 //! The archive's calls where it is for another processor than the tests: each goes to a small
 //! server that is linked with the archive and runs under an emulator.
 
-use crate::network::{Answer, Filled, Network, NetworkMut};
+use crate::network::{Answer, Filled, Gauge, Network, NetworkMut};
 use std::cell::RefCell;
 use std::io::{Read, Write};
 use std::process::{Child, ChildStdin, ChildStdout, Command, Stdio};
@@ -13,6 +13,7 @@ const SOLVE: u32 = 2;
 const REBUILD: u32 = 3;
 const READ: u32 = 4;
 const PRINT: u32 = 5;
+const GAUGE: u32 = 6;
 
 /// The bytes of an answer, and those behind the last row.
 const ANSWER: usize = 32;
@@ -232,4 +233,18 @@ pub fn print(network: &Network, events: &mut [u8], arcs: &mut [u8]) -> Filled {
     events.copy_from_slice(&left[6]);
     arcs.copy_from_slice(&left[7]);
     answer
+}
+
+/// What solve's closure makes of a network. Codes 1 to 9, 18, or 0 with five numbers for each arc
+/// written. The server puts the rounds where an answer has its place, and the arcs for its cost.
+pub fn gauge(network: &Network, longer: &mut [u32]) -> Gauge {
+    let lent = lend(network, [words_to_bytes(longer), Vec::new(), Vec::new()]);
+    let (answer, left) = call(GAUGE, &lent);
+    assert_eq!(left[..6], lent[..6], "the network's rows are kept");
+    longer.copy_from_slice(&bytes_to_words(&left[6]));
+    Gauge {
+        code: answer.code,
+        rounds: answer.place,
+        arcs: answer.cost,
+    }
 }

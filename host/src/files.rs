@@ -3,6 +3,7 @@
 use crate::compare::Case;
 use crate::network::{Answer, Rows};
 use crate::reference::{measure, network_of};
+use crate::strength::Strength;
 use std::fs;
 
 const FOLDER: &str = concat!(env!("CARGO_MANIFEST_DIR"), "/networks");
@@ -46,6 +47,21 @@ fn known(line: &str) -> Known {
         name: fields[0].into(),
         times: (fields[1] == "feasible").then(|| fields[2].split(' ').map(time).collect()),
     }
+}
+
+/// A network's name and what is known of solve's closure and search on it: the rounds and arcs of the
+/// one, the steps of the other.
+pub fn strengths() -> Vec<(String, Strength)> {
+    let text = String::from_utf8(read("STRENGTH.csv")).expect("a text");
+    let mut lines = text.lines();
+    assert_eq!(lines.next(), Some("name,rounds,arcs,steps"));
+    lines.map(strength).collect()
+}
+
+fn strength(line: &str) -> (String, Strength) {
+    let fields: Vec<&str> = line.split(',').collect();
+    let strength = [1, 2, 3].map(|k| fields[k].parse().expect("a number"));
+    (fields[0].into(), strength)
 }
 
 /// All networks of the folder; solve's answers are known of those without times already promised.

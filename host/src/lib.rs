@@ -38,13 +38,14 @@ pub mod reference;
 pub mod round_trip;
 pub mod sat;
 pub mod special;
+pub mod strength;
 pub mod tally;
 pub mod timing;
 pub mod trials;
 
-pub use network::{Answer, Arc, Filled, Network, NetworkMut, Rows};
+pub use network::{Answer, Arc, Filled, Gauge, Network, NetworkMut, Rows};
 
 #[cfg(bridged)]
-pub use bridge::{check, measure, print, read, rebuild, solve};
+pub use bridge::{check, gauge, measure, print, read, rebuild, solve};
 #[cfg(not(bridged))]
-pub use raw::{check, measure, print, read, rebuild, solve};
+pub use raw::{check, gauge, measure, print, read, rebuild, solve};

@@ -36,6 +36,16 @@ impl NetworkMut<'_> {
     }
 }
 
+/// What the archive shows of its closure: a code of the table, or 0, the rounds and how many arcs were
+/// written.
+#[repr(C)]
+#[derive(Clone, Copy, Debug, PartialEq, Eq)]
+pub struct Gauge {
+    pub code: u32,
+    pub rounds: u32,
+    pub arcs: u64,
+}
+
 /// What a call on a timetable answers, laid out as in the C interface.
 #[repr(C)]
 #[derive(Clone, Copy, Debug, PartialEq, Eq)]

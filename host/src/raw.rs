@@ -1,8 +1,8 @@
-//! The archive's exports and the only unsafe code of the package.
+//! The archives' exports and the only unsafe code of the package.
 
 #![allow(unsafe_code)]
 
-use crate::network::{Answer, Filled, Network, NetworkMut};
+use crate::network::{Answer, Filled, Gauge, Network, NetworkMut};
 
 extern "C" {
     fn rubblewaltz_check(
@@ -120,6 +120,23 @@ extern "C" {
         arcs: *mut u8,
         arcs_len: usize,
     ) -> Filled;
+
+    fn rubblewaltz_gauge(
+        periods: *const u32,
+        periods_len: usize,
+        tail: *const u32,
+        tail_len: usize,
+        head: *const u32,
+        head_len: usize,
+        lower: *const i32,
+        lower_len: usize,
+        upper: *const i32,
+        upper_len: usize,
+        weight: *const u32,
+        weight_len: usize,
+        longer: *mut u32,
+        longer_len: usize,
+    ) -> Gauge;
 }
 
 /// Makes the call with the network's six rows, each as pointer and length, and the arguments named.
@@ -246,6 +263,20 @@ pub fn print(network: &Network, events: &mut [u8], arcs: &mut [u8]) -> Filled {
             events.len(),
             arcs.as_mut_ptr(),
             arcs.len()
+        )
+    }
+}
+
+/// What solve's closure makes of a network. Codes 1 to 9, 18, or 0 with five numbers for each arc
+/// written.
+pub fn gauge(network: &Network, longer: &mut [u32]) -> Gauge {
+    // SAFETY: as in `measure`.
+    unsafe {
+        lend!(
+            rubblewaltz_gauge,
+            network,
+            longer.as_mut_ptr(),
+            longer.len()
         )
     }
 }

@@ -126,7 +126,7 @@ fn dense_networks() {
 fn special_networks() {
     for special in special::all() {
         let size = baseline::search_size(&special.rows.network());
-        assert_eq!(size.nodes > 0, special.searched, "{}", special.what);
+        assert_eq!(size.steps > 0, special.searched, "{}", special.what);
         let (answer, _) = BASELINE_SOLVE_BY_SKIPPING.compare(&Case::unwritten(special.rows));
         let code = if special.feasible { 0 } else { 10 };
         assert_eq!(answer.code, code, "{}", special.what);

@@ -64,12 +64,12 @@ fn dense_networks() {
         let few = case.rows.periods.iter().product::<u32>() <= TIMETABLES;
         let call = if few { SOLVE } else { SOLVE_BY_SKIPPING };
         let (answer, left) = call.compare(&case);
-        let nodes = baseline::search_size(&case.rows.network()).nodes;
+        let steps = baseline::search_size(&case.rows.network()).steps;
         let n = case.rows.periods.len() as u64;
         match answer.code {
-            0 if nodes == n => at_once += 1,
+            0 if steps == n => at_once += 1,
             0 => back += 1,
-            _ if nodes == 0 => closed += 1,
+            _ if steps == 0 => closed += 1,
             _ => searched += 1,
         }
         if answer.code == 0 {

@@ -1,5 +1,5 @@
 -- The laws of the table of spans: its places, one span narrowed, the steps of the closure, and a table that holds every difference. Assumes nothing.
-use mathlib.Core.Path.{_≡_, sym, _∙_}
+use mathlib.Core.Path.{_≡_, sym, _∙_, subst}
 use mathlib.Core.Logic.{_⊎_, inl, inr}
 use mathlib.Core.List.{List}
 use mathlib.Core.Bool.{false}
@@ -126,6 +126,10 @@ closing-more c t h = record {
   some = h;
   tighter = record { shaped = t .shaped; keeps = λ u p k. ((λ e. omega arith), tighter-trans (c .tighter) t .keeps u p k .1) };
 }
+
+pub closing-empty : {P : List ℕ → Type 0} {periods : List ℕ} {T T′ T″ : Table} {r s : ℕ} → Closing P periods T T′ r → Tighter P periods T′ T″ s → s ≡ 0
+    → Tighter P periods T T″ 0
+closing-empty {P} {periods} {T} {T″ = T″} c t e = subst (Tighter P periods T T″) e (tighter-trans (c .tighter) t)
 
 -- ---- a span narrowed by one that holds of the times
 

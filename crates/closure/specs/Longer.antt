@@ -3,12 +3,16 @@ use mathlib.Core.Path.{_≡_}
 use mathlib.Core.List.{List}
 use mathlib.Core.Bool.{true}
 use Prim.Native.Nat.{ℕ, _+_, _*_, _<_, _≤_}
-use lib.ListN.{length}
+use lib.ListN.{length, take}
 use lib.Dec.{leb}
 use Rattle.numbers.specs.Divisor.{gcd}
 use Rattle.numbers.specs.Row.{at}
 use Rattle.network.specs.Network.{Network, arcs}
+use Rattle.network.specs.PublicRule.{Feasible}
+use Rattle.network.specs.Table.{WellFormed}
 use Rattle.search.specs.Reduced.{Reduced, reduced, eventsIn, periodIn, nearIn, lastIn, shiftIn, runIn, gapIn, past, Fitting, Sized}
+use Rattle.search.specs.Looked.{Serves}
+use Rattle.closure.specs.declared.Closed.{Closed}
 use Rattle.closure.specs.Tables.{Table, Roomy, Spanned}
 
 -- an arc between two events of the network that every fitting timetable meets, by its five numbers
@@ -66,8 +70,18 @@ pub record Longer (R R′ : Reduced) : Type 0 where
   pub fits : (u : List ℕ) → Fitting R u → Fitting R′ u
   pub back : (u : List ℕ) → Fitting R′ u → Fitting R u
 
--- the rows of scratch: five entries for each arc, a table, and room for the longer network
+-- the answer of the closure: 0 rounds where nothing is feasible; else the row begins with the arcs of a network that serves the search
+pub record Lengthened (N : Network) (long : List ℕ) (r : Closed) : Type 0 where
+  pub none : r .rounds ≡ 0 → (u : List ℕ) → Feasible N u → ⊥
+  pub some : (r .rounds ≡ 0 → ⊥) → Serves N (reduced (N .periods) (take (5 * r .arcs) long) (r .arcs))
+
+-- what it asks: a well-formed network, and room for the longer one
+pub record LengthenAsks (N : Network) (long : List ℕ) : Type 0 where
+  pub well : WellFormed N
+  pub room : length long ≡ 11360
+
+-- and the rows of scratch: five entries for each arc, and a table
 pub record Lent (N : Network) (bars : List ℕ) (T : Table) (long : List ℕ) : Type 0 where
+  pub asks : LengthenAsks N long
   pub bars-long : length bars ≡ 5 * arcs N
   pub roomy : Roomy T
-  pub longer-long : length long ≡ 11360

@@ -57,7 +57,7 @@ fn add_arcs(
     1
 }
 
-// Makes the table and closes it: 0 if nothing fits.
+// Makes the table and closes it: in how many rounds, or 0 if nothing fits.
 pub fn spread(
     periods: &[u32],
     bars: &[u32],

@@ -189,18 +189,21 @@ fn close_round(periods: &[u32], lows: &mut [u32], widths: &mut [u32], gaps: &[u3
     status
 }
 
-// Rounds until no span becomes less wide, 64 at most: 0 if nothing is left.
+// Rounds until no span becomes less wide, 64 at most: how many, or 0 if nothing is left.
 pub fn close(periods: &[u32], lows: &mut [u32], widths: &mut [u32], gaps: &[u32]) -> u32
     requires { ⌜ Shaped (now periods) (tableOf lows widths gaps) ⌝ }
     ensures { λ r. ⌜ Tighter (Timed (now (periods .entry))) (now (periods .entry)) (tableOf (lows .entry) (widths .entry) (gaps .entry)) (tableOf (lows .exit) (widths .exit) (gaps .entry)) r ⌝ }
 {
-    let mut left: u32 = 64;
-    while 0 < left {
+    let mut round: u32 = 1;
+    while round <= 64 {
         let r = close_round(periods, lows, widths, gaps);
-        if r < 2 {
-            return r;
+        if r == 0 {
+            return 0;
         }
-        left -= 1;
+        if r < 2 {
+            return round;
+        }
+        round += 1;
     }
-    1
+    64
 }

@@ -21,7 +21,7 @@ use Rattle.search.specs.Steps.{Agree, AgreeOn, Partial, BlockedOn, Ready
 use Rattle.search.specs.Model.{zeros, reducedFor, hinders, fits, tries, find, smallestOf}
 use Rattle.search.proofs.Agreeing.{agree-refl, agree-set}
 use Rattle.search.proofs.Steps.{met-local, put-here, fit-all, placed-all, turn-first, turn-last, step-hit, step-missed, start, sought}
-use Rattle.search.proofs.Reducing.{sized, looked}
+use Rattle.search.proofs.Reducing.{sized, serves, looked}
 
 -- ---- it blames every event, so that none is passed over
 
@@ -136,5 +136,5 @@ smallest-right N w =
     infeasible (nothing f) = f
 
     go : (o : Option (List ℕ)) → Says (reducedFor N) (zeros n) 0 o → Right N o
-    go (some t) p = smallest (looked lent true (sought true p))
-    go none p = infeasible (looked lent false (sought false p))
+    go (some t) p = smallest (looked (serves lent) true (sought true p))
+    go none p = infeasible (looked (serves lent) false (sought false p))

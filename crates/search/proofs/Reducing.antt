@@ -22,7 +22,7 @@ use Rattle.network.specs.Trial.{Sound, ArcOf}
 use Rattle.network.proofs.Arcs.{period-of}
 use Rattle.network.proofs.Sound.{sound, arc-period}
 use Rattle.network.proofs.Width.{width-is, width-below, met-width}
-use Rattle.search.specs.Looked.{Looked, Sought}
+use Rattle.search.specs.Looked.{Looked, Sought, Serves}
 use Rattle.search.specs.Looked.Looked.{found, nothing}
 use Rattle.search.specs.Looked.Sought.{least-fits, none-fits}
 use Rattle.search.specs.Reduced.{Reduced, reduced, past, metAt, metIn, Fitting, Barred, Sized, nearOf, lastOf, edgeOf, shiftOf, runOf, put, putArc, putArcs, BarsLent}
@@ -225,7 +225,10 @@ module _ {N : Network} {bars : List ℕ} (lent : BarsLent N bars) where
     each-met = λ a h. sym (met-same t a h) ∙ p .met a h;
   }
 
-  -- what the search says of these rows it says of the network
-  pub looked : {t : List ℕ} (r : Bool) → Sought R t r → Looked N t r
-  looked true (least-fits f l) = found (record { feasible = feasible f; least = λ u q s. l u (fitting q) s })
-  looked false (none-fits n) = nothing (λ u q. n u (fitting q))
+  pub serves : Serves N R
+  serves = record { sized = sized; fits = λ u. fitting; back = λ u. feasible }
+
+-- what the search says of a network that serves another it says of that
+pub looked : {N : Network} {R : Reduced} {t : List ℕ} → Serves N R → (r : Bool) → Sought R t r → Looked N t r
+looked s true (least-fits f l) = found (record { feasible = s .back _ f; least = λ u q p. l u (s .fits u q) p })
+looked s false (none-fits n) = nothing (λ u q. n u (s .fits u q))

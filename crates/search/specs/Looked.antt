@@ -20,7 +20,13 @@ pub record Asked (N : Network) (t : List ℕ) : Type 0 where
   pub well : WellFormed N
   pub long : length t ≡ events N
 
--- the same of a network in unsigned numbers
+-- a network in unsigned numbers for the search, whose fitting timetables are the feasible ones of N
+pub record Serves (N : Network) (R : Reduced) : Type 0 where
+  pub sized : Sized R
+  pub fits : (u : List ℕ) → Feasible N u → Fitting R u
+  pub back : (u : List ℕ) → Fitting R u → Feasible N u
+
+-- what is found of such a network, and what is asked
 pub data Sought (R : Reduced) (t : List ℕ) : Bool → Type 0 where
   least-fits : Fitting R t → ((u : List ℕ) → Fitting R u → Smaller u t → ⊥) → Sought R t true
   none-fits : ((u : List ℕ) → Fitting R u → ⊥) → Sought R t false

@@ -1,4 +1,4 @@
--- The ways out of the public calls, that each answer is the only one, what check accepts, that texts read back, demands 1 to 3, and the paper's cases.
+-- The ways out of the public calls, that each answer is the only one, what check accepts, that texts read back, and demands 1 to 3.
 pub mod Checks
 pub mod Measures
 pub mod PrintTexts
@@ -12,7 +12,5 @@ pub mod Demand2
 pub mod Demand3
 pub mod Again
 pub mod Accepts
-pub mod Models
-pub mod Cases
 pub mod Turned
 pub mod Repeated

@@ -5,7 +5,7 @@ use crate::network::Network;
 
 /// What an arc rules out at its later end, `last`: in each lap of `gap` ticks a run of `run` times,
 /// which begins `shift` after the time at its earlier end, `near`.
-#[derive(Clone, Copy, Default)]
+#[derive(Clone, Copy, Debug, Default, PartialEq, Eq)]
 pub struct Bar {
     pub near: u32,
     pub last: u32,

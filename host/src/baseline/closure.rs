@@ -9,7 +9,7 @@ use crate::network::Network;
 pub const MOST: usize = 64 * 63 / 2 + 256;
 
 /// No more rounds are made, whatever the last one has narrowed.
-const ROUNDS: usize = 64;
+const ROUNDS: u32 = 64;
 
 /// An entry for each two events, in the row of the first.
 type Table = [[u32; 64]; 64];
@@ -66,24 +66,24 @@ impl Spans {
         }
     }
 
-    /// False if a span is empty.
-    fn close(&mut self, periods: &[u32], own: &[Bar]) -> bool {
+    /// How many rounds it took, or 0 if a span is empty.
+    fn close(&mut self, periods: &[u32], own: &[Bar]) -> u32 {
         for bar in own {
             let low = (bar.shift + bar.run) % bar.gap;
             let width = bar.gap - 1 - bar.run;
             let change = self.narrow(bar.near as usize, bar.last as usize, low, width);
             if matches!(change, Change::Empty) {
-                return false;
+                return 0;
             }
         }
-        for _ in 0..ROUNDS {
+        for round in 1..=ROUNDS {
             match self.round(periods) {
-                Change::Empty => return false,
-                Change::Same => break,
+                Change::Empty => return 0,
+                Change::Same => return round,
                 Change::Narrower => (),
             }
         }
-        true
+        ROUNDS
     }
 
     /// Each two events by way of each third.
@@ -169,18 +169,29 @@ fn cut(gap: u32, (low, width): (u32, u32), (other, wide): (u32, u32)) -> Option<
     }
 }
 
-/// Puts the arcs that the spans make, and then the network's own; None if a span is empty.
-pub fn longer<'a>(network: &Network, bars: &'a mut [Bar; MOST]) -> Option<&'a [Bar]> {
+/// The arcs for the search and how many rounds the closure made: 0 where a span is empty, and then
+/// there are no arcs.
+pub struct Closed<'a> {
+    pub rounds: u32,
+    pub bars: &'a [Bar],
+}
+
+/// Puts the arcs that the spans make, and then the network's own.
+pub fn longer<'a>(network: &Network, bars: &'a mut [Bar; MOST]) -> Closed<'a> {
     let (n, m) = (network.periods.len(), network.tail.len());
     let mut own = [Bar::default(); 256];
     for (arc, bar) in own[..m].iter_mut().enumerate() {
         *bar = Bar::new(network, arc);
     }
     let mut spans = Spans::new(network.periods);
-    if !spans.close(network.periods, &own[..m]) {
-        return None;
+    let rounds = spans.close(network.periods, &own[..m]);
+    if rounds == 0 {
+        return Closed { rounds, bars: &[] };
     }
     let count = spans.put(n, bars);
     bars[count..count + m].copy_from_slice(&own[..m]);
-    Some(&bars[..count + m])
+    Closed {
+        rounds,
+        bars: &bars[..count + m],
+    }
 }

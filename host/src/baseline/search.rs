@@ -2,7 +2,7 @@
 //! out. From an event that can't be placed it goes back to the last one that had a part in that.
 
 use super::bar::Bar;
-use super::closure::{longer, MOST};
+use super::closure::{longer, Closed, MOST};
 use crate::network::Network;
 
 /// Stands for no arc.
@@ -10,29 +10,38 @@ const NONE: u32 = MOST as u32;
 
 /// What is counted on the way.
 trait Count {
-    fn add_node(&mut self);
+    /// May the search go on?
+    fn add_step(&mut self) -> bool;
     fn add_division(&mut self);
 }
 
 /// Nothing, where the search is timed.
 impl Count for () {
-    fn add_node(&mut self) {}
+    fn add_step(&mut self) -> bool {
+        true
+    }
+
     fn add_division(&mut self) {}
 }
 
-/// How large a search is: how many arcs it has, the closure's and the network's own; its nodes are
-/// the events whose row is marked, each time anew, and each arc that is marked there costs a
-/// division. All are 0 where the closure alone has the answer.
+/// How large a search is: the closure's rounds; how many arcs it has, the closure's and the network's
+/// own; its steps are the events whose row is marked, each time anew, and each arc that is marked
+/// there costs a division. All are 0 where the closure alone has the answer.
 #[derive(Default)]
 pub struct Size {
+    pub rounds: u32,
     pub arcs: usize,
-    pub nodes: u64,
+    pub steps: u64,
     pub divisions: u64,
 }
 
+/// A search that is measured is stopped after so many steps, as if it had placed every event.
+const MOST_STEPS: u64 = 1_000_000;
+
 impl Count for Size {
-    fn add_node(&mut self) {
-        self.nodes += 1;
+    fn add_step(&mut self) -> bool {
+        self.steps += 1;
+        self.steps < MOST_STEPS
     }
 
     fn add_division(&mut self) {
@@ -55,23 +64,29 @@ struct Search<'a, C> {
 
 pub fn smallest(network: &Network, times: &mut [u32]) -> bool {
     let mut bars = [Bar::default(); MOST];
-    let Some(bars) = longer(network, &mut bars) else {
-        return false;
-    };
-    Search::new(network.periods, bars, ()).place(times, 0, &mut [false; 64])
+    let closed = longer(network, &mut bars);
+    closed.rounds > 0
+        && Search::new(network.periods, closed.bars, ()).place(times, 0, &mut [false; 64])
 }
 
 /// The size of solve's search on a network that is in order.
 pub fn search_size(network: &Network) -> Size {
-    let mut size = Size::default();
-    let mut bars = [Bar::default(); MOST];
-    if let Some(bars) = longer(network, &mut bars) {
-        size.arcs = bars.len();
-        let mut search = Search::new(network.periods, bars, size);
-        search.place(&mut [0; 64], 0, &mut [false; 64]);
-        size = search.count;
+    size_over(network, &longer(network, &mut [Bar::default(); MOST]))
+}
+
+/// The same over the arcs that another closure made.
+pub fn size_over(network: &Network, closed: &Closed) -> Size {
+    let size = Size {
+        rounds: closed.rounds,
+        arcs: closed.bars.len(),
+        ..Size::default()
+    };
+    if closed.rounds == 0 {
+        return size;
     }
-    size
+    let mut search = Search::new(network.periods, closed.bars, size);
+    search.place(&mut [0; 64], 0, &mut [false; 64]);
+    search.count
 }
 
 impl<'a, C: Count> Search<'a, C> {
@@ -97,6 +112,9 @@ impl<'a, C: Count> Search<'a, C> {
         let Some(&period) = self.periods.get(event) else {
             return true;
         };
+        if !self.count.add_step() {
+            return true;
+        }
         let mut row = [false; 3600];
         let row = &mut row[..period as usize];
         self.mark(times, event, row, blame);
@@ -124,7 +142,6 @@ impl<'a, C: Count> Search<'a, C> {
     /// is blamed if an arc to it rules out a time that none before it did.
     fn mark(&mut self, times: &[u32], event: usize, row: &mut [bool], blame: &mut Blame) {
         *blame = [false; 64];
-        self.count.add_node();
         let mut arc = self.firsts[event] as usize;
         while let Some(bar) = self.bars.get(arc) {
             self.count.add_division();

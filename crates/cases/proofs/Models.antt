@@ -17,17 +17,18 @@ use Rattle.walks.specs.Model.{Out, timetable, refused as stuck, answerFor}
 use Rattle.walks.proofs.Walks.{closed}
 use Rattle.walks.proofs.Labels.{anchored}
 use Rattle.walks.proofs.Models.{Right as Walked, answer-right}
 use Rattle.timetable.specs.Solve.{solveJudged}
 use Rattle.timetable.specs.Solve.Found.{infeasible, solved}
 use Rattle.timetable.specs.Solve.Solved.{refused, searched}
 use Rattle.timetable.specs.Rebuild.{rebuildJudged, graph}
 use Rattle.timetable.specs.Rebuild.Restored.{impossible, restored}
 use Rattle.timetable.specs.Rebuild.Rebuilt.{refused as not-judged, judged}
-use Rattle.timetable.specs.Model.{Outcome, outcome, measureModel, settleBy, solveModel, listed, restoreBy, rebuildModel, Call, measure, solve, rebuild, computed, Meets}
 use Rattle.timetable.proofs.Sheets.{common, between, stands}
 use Rattle.timetable.proofs.Solves.{solve-well}
 use Rattle.timetable.proofs.Rebuilds.{sheet-judged}
 use Rattle.timetable.proofs.One.{measure-one, solve-one, rebuild-one}
+use Rattle.cases.specs.Calls.{Outcome, outcome, listed, Call, measure, solve, rebuild, Meets}
+use Rattle.cases.proofs.Model.{measureModel, settleBy, solveModel, restoreBy, rebuildModel, computed}
 
 measure-meets : (N : Network) (t : List ℕ) (rows : ArcRows) → Meets (measure N t rows) (measureModel N t rows)
 unfolding measureModel

@@ -1,5 +1,5 @@
 //! The size of solve's search on the networks of the folder networks, its divisions, and how long
-//! solve takes. Run with `cargo run --release --example nodes`.
+//! solve takes. Run with `cargo run --release --example steps`.
 
 use rubblewaltz_host::compare::{Case, Version};
 use rubblewaltz_host::files::{self, Known};
@@ -9,8 +9,8 @@ use std::hint::black_box;
 
 fn main() {
     announce();
-    println!("                                   divisions    archive  safe Rust");
-    println!("network             arcs     nodes  per node         us         us  ratio");
+    println!("                                           divisions    archive  safe Rust");
+    println!("network           rounds    arcs     steps  per step         us         us  ratio");
     for known in files::answers() {
         report(&known);
     }
@@ -22,11 +22,12 @@ fn report(known: &Known) {
     let ours = microseconds(&case, solve);
     let theirs = microseconds(&case, baseline::solve);
     println!(
-        "{:<18}{:>6}{:>10}{:>10.2}{ours:>11.2}{theirs:>11.2}{:>7}",
+        "{:<18}{:>6}{:>8}{:>10}{:>10.2}{ours:>11.2}{theirs:>11.2}{:>7}",
         known.name,
+        size.rounds,
         size.arcs,
-        size.nodes,
-        size.divisions as f64 / size.nodes.max(1) as f64,
+        size.steps,
+        size.divisions as f64 / size.steps.max(1) as f64,
         ratio(ours, theirs)
     );
 }

@@ -1,32 +1,21 @@
 -- Measure, solve and rebuild as antt computes them. Definitions alone.
-use mathlib.Core.Path.{_≡_}
-use mathlib.Core.List.{List, []}
+use mathlib.Core.List.{List}
 use mathlib.Core.Option.{Option, some, none}
 use mathlib.Core.Bool.{cond}
 use Prim.Native.Nat.{ℕ}
 use lib.IntN.{ℤ}
 use lib.Dec.{eqb}
 use Rattle.numbers.specs.Row.{at}
-use Rattle.network.specs.declared.Answer.{Answer}
 use Rattle.network.specs.Network.{Network, events, period}
 use Rattle.network.specs.PublicRule.{costOf}
 use Rattle.network.specs.Refusals.{answer, after}
-use Rattle.network.specs.Rows.{written, ArcRows, arcRows, noted}
+use Rattle.network.specs.Rows.{written, ArcRows, noted}
 use Rattle.search.specs.Model.{smallestOf}
 use Rattle.walks.specs.Model.{Out, timetable, refused, answerFor}
-use Rattle.timetable.specs.Measure.{measureOf, Measured}
-use Rattle.timetable.specs.Solve.{solveJudged, Solved}
-use Rattle.timetable.specs.Rebuild.{rebuildJudged, Rebuilt}
-
--- the row of times and those of the arcs after a call, and its answer
-pub record Outcome : Type 0 where
-  pub times : List ℕ
-  pub rows : ArcRows
-  pub reply : Answer
-
--- the outcome of these three
-abbrev pub outcome : List ℕ → ArcRows → Answer → Outcome
-outcome t rows r = record { times = t; rows = rows; reply = r }
+use Rattle.timetable.specs.Measure.{measureOf}
+use Rattle.timetable.specs.Solve.{solveJudged}
+use Rattle.timetable.specs.Rebuild.{rebuildJudged}
+use Rattle.cases.specs.Calls.{Outcome, outcome, listed, Call, measure, solve, rebuild}
 
 -- measure: the answer, and the rows that follow from it
 unfoldable pub measureModel : Network → List ℕ → ArcRows → Outcome
@@ -43,10 +32,6 @@ solveModel N times rows =
     let r = solveJudged N times rows in
     cond {A = Outcome} (eqb (r .code) 0) (settleBy N times rows (smallestOf N)) (outcome times rows r)
 
--- the tensions alone: rebuild is lent no turns
-abbrev pub listed : List ℤ → ArcRows
-listed x = arcRows x []
-
 -- what rebuild leaves, by what the walks found
 abbrev pub restoreBy : Network → List ℤ → List ℕ → Out → Outcome
 restoreBy N x times (timetable t) = outcome (written (at t) (events N) times) (listed x) (answer 0 0 (costOf N t))
@@ -58,20 +43,8 @@ rebuildModel N x times =
     let r = rebuildJudged N x times in
     cond {A = Outcome} (eqb (r .code) 0) (restoreBy N x times (answerFor (N .tails) (N .heads) x (period N 0) (events N))) (outcome times (listed x) r)
 
--- a call, with the network and the rows lent to it
-pub data Call : Type 0 where
-  measure : Network → List ℕ → ArcRows → Call
-  solve : Network → List ℕ → ArcRows → Call
-  rebuild : Network → List ℤ → List ℕ → Call
-
 -- what antt computes of a call
 abbrev pub computed : Call → Outcome
 computed (measure N t rows) = measureModel N t rows
 computed (solve N times rows) = solveModel N times rows
 computed (rebuild N x times) = rebuildModel N x times
-
--- an outcome that the contract of the call allows; measure only reads the times, and rebuild the tensions
-abbrev pub Meets : Call → Outcome → Type 0
-Meets (measure N t rows) o = Measured N t rows (o .rows) (o .reply) × (o .times ≡ t)
-Meets (solve N times rows) o = Solved N times rows (o .times) (o .rows) (o .reply)
-Meets (rebuild N x times) o = Rebuilt N x times (o .times) (o .reply) × (o .rows ≡ listed x)

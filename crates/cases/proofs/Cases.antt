@@ -11,12 +11,13 @@ use Rattle.network.specs.Rows.{written, short, noted}
 use Rattle.search.specs.Reduced.{metAt, putArc, putArcs}
 use Rattle.search.specs.Model.{reducedFor, hinders, fits, tries, find, smallestOf}
 use Rattle.walks.specs.Model.{own, step, run, answer}
 use Rattle.timetable.specs.Measure.{measureRefusals, measureOf}
 use Rattle.timetable.specs.Solve.{solveRefusals, solveJudged}
 use Rattle.timetable.specs.Rebuild.{rebuildRefusals, rebuildJudged}
-use Rattle.timetable.specs.Model.{Outcome, measureModel, solveModel, rebuildModel, computed, Meets}
-use Rattle.timetable.specs.Cases.{Case, cases}
-use Rattle.timetable.proofs.Models.{only}
+use Rattle.cases.specs.Calls.{Outcome, Meets}
+use Rattle.cases.proofs.Model.{measureModel, solveModel, rebuildModel, computed}
+use Rattle.cases.specs.Cases.{Case, cases}
+use Rattle.cases.proofs.Models.{only}
 
 -- one test over the whole list
 all : map (λ (c : Case). computed (c .call)) cases ≡ map (λ (c : Case). c .said) cases

@@ -7,7 +7,7 @@ use lib.ListN.{length, replicate}
 use Rattle.network.specs.Network.{Network, net, events, arcs}
 use Rattle.network.specs.Refusals.{answer}
 use Rattle.network.specs.Rows.{ArcRows, arcRows}
-use Rattle.timetable.specs.Model.{Outcome, outcome, listed, Call, measure, solve, rebuild}
+use Rattle.cases.specs.Calls.{Outcome, outcome, listed, Call, measure, solve, rebuild}
 
 -- a call, and the outcome that it must have
 pub record Case : Type 0 where

@@ -1,0 +1,2 @@
+-- What is shown of the closure.
+pub mod Gauge
