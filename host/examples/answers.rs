@@ -20,9 +20,8 @@ const MOST_CLAUSES: u64 = 5_000_000;
 /// A solver is stopped after that.
 const LIMIT: Duration = Duration::from_secs(60);
 
-/// The goals in milliseconds for one solve: of every network, and of the rural ones of 64 events.
-const GOAL: f64 = 2000.0;
-const RURAL_GOAL: f64 = 200.0;
+/// The goal in milliseconds for one solve.
+const GOAL: f64 = 500.0;
 
 /// The goal for the archive's time by that of safe Rust.
 const RATIO_GOAL: f64 = 1.2;
@@ -30,7 +29,6 @@ const RATIO_GOAL: f64 = 1.2;
 /// What was measured on one network, in milliseconds for one solve.
 struct Measured {
     name: String,
-    is_rural_of_64: bool,
     archive: f64,
     baseline: f64,
 }
@@ -39,11 +37,16 @@ fn main() {
     announce();
     let solvers: Vec<Solver> = SOLVERS.into_iter().filter(Solver::is_on_path).collect();
     print_head(&solvers);
-    let answers = files::answers();
-    let measured: Vec<Measured> = answers
-        .iter()
-        .map(|known| report(known, &solvers))
-        .collect();
+    let (long, short): (Vec<Known>, Vec<Known>) =
+        files::answers().into_iter().partition(Known::is_long);
+    let measured: Vec<Measured> = short.iter().map(|known| report(known, &solvers)).collect();
+    for known in &long {
+        println!(
+            "{:<22}not timed: over {} steps",
+            known.name,
+            baseline::MOST_STEPS
+        );
+    }
     print_goals(&measured);
 }
 
@@ -51,7 +54,7 @@ fn print_head(solvers: &[Solver]) {
     if solvers.is_empty() {
         println!("No SAT solver is on the path.");
     }
-    print!("network           answer        steps  archive ms safe Rust ms  ratio");
+    print!("network               answer        steps  archive ms safe Rust ms  ratio");
     for solver in solvers {
         print!("{:>12}", format!("{} ms", solver.name));
     }
@@ -72,7 +75,7 @@ fn report(known: &Known, solvers: &[Solver]) -> Measured {
         "infeasible"
     };
     print!(
-        "{:<18}{answer:<10}{:>9}{archive:>12.3}{baseline:>13.3}{:>7}",
+        "{:<22}{answer:<10}{:>9}{archive:>12.3}{baseline:>13.3}{:>7}",
         known.name,
         baseline::search_size(&network).steps,
         ratio(archive, baseline)
@@ -83,7 +86,6 @@ fn report(known: &Known, solvers: &[Solver]) -> Measured {
     println!();
     Measured {
         name: known.name.clone(),
-        is_rural_of_64: known.name.starts_with('r') && network.periods.len() == 64,
         archive,
         baseline,
     }
@@ -139,29 +141,18 @@ fn written(network: &Network) -> PathBuf {
 /// Which goals hold?
 fn print_goals(measured: &[Measured]) {
     let time = |one: &Measured| one.archive;
-    print_goal("every solve at most 2,000 ms", GOAL, measured.iter(), time);
-    let rural = measured.iter().filter(|one| one.is_rural_of_64);
-    print_goal(
-        "rural networks of 64 events at most 200 ms",
-        RURAL_GOAL,
-        rural,
-        time,
-    );
+    print_goal("every solve at most 500 ms", GOAL, measured, time);
     if is_emulated() {
         println!("ratio at most 1.2: not measured on this processor");
     } else {
         let ratio = |one: &Measured| one.archive / one.baseline;
-        print_goal("ratio at most 1.2", RATIO_GOAL, measured.iter(), ratio);
+        print_goal("ratio at most 1.2", RATIO_GOAL, measured, ratio);
     }
 }
 
-fn print_goal<'a>(
-    goal: &str,
-    most: f64,
-    measured: impl Iterator<Item = &'a Measured>,
-    value: impl Fn(&Measured) -> f64,
-) {
-    let worst = measured.max_by(|one, other| value(one).total_cmp(&value(other)));
+fn print_goal(goal: &str, most: f64, measured: &[Measured], value: impl Fn(&Measured) -> f64) {
+    let by_value = |one: &&Measured, other: &&Measured| value(one).total_cmp(&value(other));
+    let worst = measured.iter().max_by(by_value);
     let worst = worst.expect("a network");
     let holds = if value(worst) <= most {
         "holds"

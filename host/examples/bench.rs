@@ -50,8 +50,11 @@ const TEXT_CALLS: [(&str, TextVersion, TextVersion); 2] = [
 
 fn main() {
     announce();
-    println!("network           call     code    archive us  safe Rust us   ratio");
-    for known in files::answers() {
+    println!("network               call     code    archive us  safe Rust us   ratio");
+    for known in files::answers()
+        .into_iter()
+        .filter(|known| !known.is_long())
+    {
         let case = prepared(&known);
         for call in CALLS {
             report_call(&known.name, &case, call);
@@ -97,7 +100,7 @@ fn report<T>(
     let ours = best(archive);
     let theirs = best(baseline);
     println!(
-        "{network:<17} {call:<8} {:>4} {ours:>13.2} {theirs:>13.2} {:>7}",
+        "{network:<21} {call:<8} {:>4} {ours:>13.2} {theirs:>13.2} {:>7}",
         answer.into().code,
         ratio(ours, theirs)
     );

@@ -9,9 +9,14 @@ use std::hint::black_box;
 
 fn main() {
     announce();
-    println!("                                           divisions    archive  safe Rust");
-    println!("network           rounds    arcs     steps  per step         us         us  ratio");
-    for known in files::answers() {
+    println!("                                               divisions    archive  safe Rust");
+    println!(
+        "network               rounds    arcs     steps  per step         us         us  ratio"
+    );
+    for known in files::answers()
+        .into_iter()
+        .filter(|known| !known.is_long())
+    {
         report(&known);
     }
 }
@@ -22,7 +27,7 @@ fn report(known: &Known) {
     let ours = microseconds(&case, solve);
     let theirs = microseconds(&case, baseline::solve);
     println!(
-        "{:<18}{:>6}{:>8}{:>10}{:>10.2}{ours:>11.2}{theirs:>11.2}{:>7}",
+        "{:<22}{:>6}{:>8}{:>10}{:>10.2}{ours:>11.2}{theirs:>11.2}{:>7}",
         known.name,
         size.rounds,
         size.arcs,

@@ -8,7 +8,7 @@ mod text;
 
 pub use bar::Bar;
 pub use closure::{longer, Closed, MOST};
-pub use search::{search_size, size_over, Size};
+pub use search::{search_size, size_over, Size, MOST_STEPS};
 pub use text::{print, read};
 
 use crate::network::{Answer, Network};

@@ -8,13 +8,20 @@ use std::fs;
 
 const FOLDER: &str = concat!(env!("CARGO_MANIFEST_DIR"), "/networks");
 
-/// A network's name and its smallest timetable, if it has a feasible one.
+/// A network's name, its smallest timetable, if it has a feasible one, and how strong solve's closure is
+/// on it.
 pub struct Known {
     pub name: String,
     pub times: Option<Vec<u32>>,
+    pub strength: Strength,
 }
 
 impl Known {
+    /// Does solve take too long to be waited for?
+    pub fn is_long(&self) -> bool {
+        self.strength.steps.is_none()
+    }
+
     /// The network with rows for solve to write.
     pub fn unsolved(&self) -> Case {
         Case::unwritten(network(&self.name))
@@ -33,35 +40,36 @@ impl Known {
     }
 }
 
+/// The answers were found by other methods; the strengths are those of this closure.
 pub fn answers() -> Vec<Known> {
-    let text = String::from_utf8(read("ANSWERS.csv")).expect("a text");
-    let mut lines = text.lines();
-    assert_eq!(lines.next(), Some("name,solve,solve_times"));
-    lines.map(known).collect()
+    let answers = records("ANSWERS.csv", "name,solve,solve_times");
+    let strengths = records("STRENGTH.csv", "name,rounds,arcs,steps");
+    assert_eq!(answers.len(), strengths.len());
+    answers.iter().zip(&strengths).map(known).collect()
 }
 
-fn known(line: &str) -> Known {
-    let fields: Vec<&str> = line.split(',').collect();
-    let time = |field: &str| field.parse().expect("a time");
+/// The fields of each line below the header.
+fn records(file: &str, header: &str) -> Vec<Vec<String>> {
+    let text = String::from_utf8(read(file)).expect("a text");
+    let mut lines = text.lines();
+    assert_eq!(lines.next(), Some(header));
+    let fields = |line: &str| line.split(',').map(String::from).collect();
+    lines.map(fields).collect()
+}
+
+fn known((answer, strength): (&Vec<String>, &Vec<String>)) -> Known {
+    assert_eq!(answer[0], strength[0]);
+    let number = |field: &str| field.parse().expect("a number");
+    let time = |field: &str| number(field) as u32;
     Known {
-        name: fields[0].into(),
-        times: (fields[1] == "feasible").then(|| fields[2].split(' ').map(time).collect()),
+        name: answer[0].clone(),
+        times: (answer[1] == "feasible").then(|| answer[2].split(' ').map(time).collect()),
+        strength: Strength {
+            rounds: number(&strength[1]),
+            arcs: number(&strength[2]),
+            steps: (!strength[3].is_empty()).then(|| number(&strength[3])),
+        },
     }
-}
-
-/// A network's name and what is known of solve's closure and search on it: the rounds and arcs of the
-/// one, the steps of the other.
-pub fn strengths() -> Vec<(String, Strength)> {
-    let text = String::from_utf8(read("STRENGTH.csv")).expect("a text");
-    let mut lines = text.lines();
-    assert_eq!(lines.next(), Some("name,rounds,arcs,steps"));
-    lines.map(strength).collect()
-}
-
-fn strength(line: &str) -> (String, Strength) {
-    let fields: Vec<&str> = line.split(',').collect();
-    let strength = [1, 2, 3].map(|k| fields[k].parse().expect("a number"));
-    (fields[0].into(), strength)
 }
 
 /// All networks of the folder; solve's answers are known of those without times already promised.

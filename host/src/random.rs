@@ -14,5 +14,5 @@ pub use generator::Random;
 pub use networks::{heavy, linked, planted, unplanted};
 pub use printing::{damaged_print, printable};
 pub use rebuilding::{few_timetables, knotted, unrebuilt, vary_tensions, with_tensions};
-pub use solving::{dense, loose, small, solvable, unsolved};
+pub use solving::{by_laps, dense, loose, small, solvable, unsolved};
 pub use texts::{any_rows, lent, some_rows, spelled, Draft};

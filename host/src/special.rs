@@ -121,7 +121,7 @@ fn pieces() -> Vec<Special> {
         ),
         dead("between the pieces", &[12; 2], &[one, other, between]),
         empty("between them first", &[12; 2], &[between, one, other]),
-        dead(
+        empty(
             "between them over a third event",
             &hours,
             &[one, other, (1, 2, 0, 0), (0, 2, 3, 5)],

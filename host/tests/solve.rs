@@ -5,7 +5,7 @@ use rubblewaltz_host::random::damage::{
     Damage, INFEASIBLE, NETWORK, SHORT_TENSIONS, SHORT_TIMES, SHORT_TURNS,
 };
 use rubblewaltz_host::random::{
-    dense, edges, heavy, loose, planted, small, solvable, unplanted, unsolved, Random,
+    by_laps, dense, edges, heavy, loose, planted, small, solvable, unplanted, unsolved, Random,
 };
 use rubblewaltz_host::reference::finishes_within;
 use rubblewaltz_host::tally::Tally;
@@ -59,7 +59,7 @@ fn dense_networks() {
     let mut tally = Tally::new("solve, dense networks");
     let (mut closed, mut searched, mut at_once, mut back) = (0, 0, 0, 0);
     for round in 0..20_000 {
-        let make = if round % 2 == 0 { dense } else { loose };
+        let make = [dense, loose, by_laps][round % 3];
         let case = make(&mut random);
         let few = case.rows.periods.iter().product::<u32>() <= TIMETABLES;
         let call = if few { SOLVE } else { SOLVE_BY_SKIPPING };

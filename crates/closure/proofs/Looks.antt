@@ -1,7 +1,7 @@
 -- From the network to the longer one and back: the rows as the calls leave them. Assumes nothing.
 use mathlib.Core.Path.{_≡_, sym, subst}
 use mathlib.Core.List.{List}
-use Prim.Native.Nat.{ℕ, _+_, _*_, _≤_}
+use Prim.Native.Nat.{ℕ, _*_, _≤_}
 use native.Mathlib.Omega.{arith}
 use lib.ListN.{length, take, length-take}
 use Rattle.network.specs.Network.{Network, arcs}
@@ -12,7 +12,7 @@ use Rattle.search.specs.Reduced.{Reduced, reduced, Sized, putArcs, BarsLent}
 use Rattle.search.specs.Looked.{Serves}
 use Rattle.search.proofs.Reducing.{serves}
 use Rattle.closure.specs.Tables.{Table, Roomy, SpreadAsks, Spread}
-use Rattle.closure.specs.Longer.{Implied, AppendAsks, CopyAsks, Copied, Longer, longer}
+use Rattle.closure.specs.Longer.{AppendAsks, Whole, Longer}
 use Rattle.closure.proofs.Longers.{longer-is}
 
 -- what has the same fitting timetables serves too
@@ -44,20 +44,8 @@ module _ {N : Network} {bars bars′ : List ℕ} (lent : BarsLent N bars) (e : b
   pub refuted : {T : Table} {r : ℕ} → Spread R T r → r ≡ 0 → (u : List ℕ) → Feasible N u → ⊥
   refuted s q u f = s .none q u (serves-left .fits u f)
 
-  pub append-asks : {T : Table} {r : ℕ} {row : List ℕ} → Spread R T r → length row ≡ 11360 → AppendAsks R T row 0
-  append-asks s l = record {
-    sized = serves-left .sized;
-    spanned = s .spanned;
-    implied = record { long = l; few = omega arith; each = λ a h. absurd (omega arith) };
-  }
+  pub append-asks : {T : Table} {r : ℕ} {row : List ℕ} → Spread R T r → length row ≡ 11360 → AppendAsks R T row
+  append-asks s l = record { sized = serves-left .sized; spanned = s .spanned; own-few = has .even .few-arcs; long = l }
 
-  pub copy-asks : {row : List ℕ} {c : ℕ} → Implied R row c → CopyAsks bars′ row c
-  copy-asks i = record { room = omega (arith, i .long, i .few, has .even .few-arcs, serves-left .sized .barred .long); few = omega (arith, i .long) }
-
-  -- the longer network has few arcs
-  pub all-few : {row : List ℕ} {c : ℕ} → Implied R row c → c + arcs N ≤ 2272
-  all-few i = omega (arith, i .few, has .even .few-arcs)
-
-  pub serves-longer : {row row′ : List ℕ} {c : ℕ} → Implied R row c → Copied bars′ row row′ c (length bars′)
-      → Serves N (longer R (take (5 * (c + arcs N)) row′) c)
-  serves-longer i p = same-serves serves-left (longer-is (serves-left .sized) (has .even .few-arcs) i p)
+  pub serves-longer : {row : List ℕ} {c : ℕ} → Whole R row c → Serves N (reduced (N .periods) (take (5 * c) row) c)
+  serves-longer w = same-serves serves-left (longer-is (serves-left .sized) (has .even .few-arcs) w)

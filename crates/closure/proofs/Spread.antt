@@ -113,9 +113,8 @@ pub spanned-opened : {R : Reduced} {T : Table} → Opened (R .periods) T → Spa
 spanned-opened o = record { shaped = o .shaped; keeps = λ u f. o .all u }
 
 -- a step that loses no fitting timetable
-pub spanned-tighter : {R : Reduced} {P : List ℕ → Type 0} {T T′ : Table} {r : ℕ} → ((u : List ℕ) → Fitting R u → P u) → Spanned R T
-    → Tighter P (R .periods) T T′ r → Spread R T′ r
-spanned-tighter p s t = record {
-  spanned = record { shaped = t .shaped; keeps = λ u f. t .keeps u (p u f) (s .keeps u f) .1 };
-  none = λ e u f. t .keeps u (p u f) (s .keeps u f) .0 e;
+pub spanned-tighter : {R : Reduced} {T T′ : Table} {r : ℕ} → Spanned R T → Tighter (Fitting R) (R .periods) T T′ r → Spread R T′ r
+spanned-tighter s t = record {
+  spanned = record { shaped = t .shaped; keeps = λ u f. t .keeps u f (s .keeps u f) .1 };
+  none = λ e u f. t .keeps u f (s .keeps u f) .0 e;
 }

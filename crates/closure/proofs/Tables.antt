@@ -105,6 +105,15 @@ pub tighter-trans : {P : List ℕ → Type 0} {periods : List ℕ} {T T′ T″ 
     → Tighter P periods T T″ s
 tighter-trans a b = record { shaped = b .shaped; keeps = λ u p k. b .keeps u p (a .keeps u p k .1) }
 
+-- an answer that is 0
+pub tighter-empty : {P : List ℕ → Type 0} {periods : List ℕ} {T T′ : Table} {r : ℕ} → Tighter P periods T T′ r → r ≡ 0 → Tighter P periods T T′ 0
+tighter-empty {P} {periods} {T} {T′} t e = subst (Tighter P periods T T′) e t
+
+-- what loses none that P holds of loses none that Q holds of
+pub tighter-under : {P Q : List ℕ → Type 0} {periods : List ℕ} {T T′ : Table} {r : ℕ} → ((u : List ℕ) → Q u → P u) → Tighter P periods T T′ r
+    → Tighter Q periods T T′ r
+tighter-under q t = record { shaped = t .shaped; keeps = λ u p. t .keeps u (q u p) }
+
 -- each of the three rows is as long in every table
 module _ {T T′ : Table} (r : Roomy T) (r′ : Roomy T′) where
   pub lows-same : length (T′ .lows) ≡ length (T .lows)
@@ -126,10 +135,6 @@ closing-more c t h = record {
   some = h;
   tighter = record { shaped = t .shaped; keeps = λ u p k. ((λ e. omega arith), tighter-trans (c .tighter) t .keeps u p k .1) };
 }
-
-pub closing-empty : {P : List ℕ → Type 0} {periods : List ℕ} {T T′ T″ : Table} {r s : ℕ} → Closing P periods T T′ r → Tighter P periods T′ T″ s → s ≡ 0
-    → Tighter P periods T T″ 0
-closing-empty {P} {periods} {T} {T″ = T″} c t e = subst (Tighter P periods T T″) e (tighter-trans (c .tighter) t)
 
 -- ---- a span narrowed by one that holds of the times
 

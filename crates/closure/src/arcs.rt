@@ -1,7 +1,7 @@
 // The table of spans for the arcs of a network.
 ghost use Rattle.search.specs.Reduced.{reduced, Fitting};
 ghost use Rattle.closure.specs.Tables.{tableOf, ArcsAsk, ArcAsks, Tighter, SpreadAsks, Spread};
-use crate::table::close;
+use crate::table::close_round;
 use crate::table::narrow;
 use crate::table::widen;
 use network::rule::entry;
@@ -57,6 +57,51 @@ fn add_arcs(
     1
 }
 
+// One round. An arc may cut off a piece now that it could not cut off a wider span, so that each round begins with the arcs.
+fn whole_round(
+    periods: &[u32],
+    bars: &[u32],
+    m: usize,
+    lows: &mut [u32],
+    widths: &mut [u32],
+    gaps: &[u32],
+) -> u32
+    requires { ⌜ ArcsAsk (reduced (now periods) (now bars) m) (tableOf lows widths gaps) ⌝ }
+    ensures { λ r. ⌜ Tighter (Fitting (reduced (now (periods .entry)) (now (bars .entry)) m)) (now (periods .entry)) (tableOf (lows .entry) (widths .entry) (gaps .entry)) (tableOf (lows .exit) (widths .exit) (gaps .entry)) r ⌝ }
+{
+    let left = add_arcs(periods, bars, m, lows, widths, gaps);
+    if left == 0 {
+        return 0;
+    }
+    close_round(periods, lows, widths, gaps)
+}
+
+// Rounds until no span becomes less wide through an event, 64 at most: how many, or 0 if nothing is left.
+fn close(
+    periods: &[u32],
+    bars: &[u32],
+    m: usize,
+    lows: &mut [u32],
+    widths: &mut [u32],
+    gaps: &[u32],
+) -> u32
+    requires { ⌜ ArcsAsk (reduced (now periods) (now bars) m) (tableOf lows widths gaps) ⌝ }
+    ensures { λ r. ⌜ Tighter (Fitting (reduced (now (periods .entry)) (now (bars .entry)) m)) (now (periods .entry)) (tableOf (lows .entry) (widths .entry) (gaps .entry)) (tableOf (lows .exit) (widths .exit) (gaps .entry)) r ⌝ }
+{
+    let mut round: u32 = 1;
+    while round <= 64 {
+        let status = whole_round(periods, bars, m, lows, widths, gaps);
+        if status == 0 {
+            return 0;
+        }
+        if status < 2 {
+            return round;
+        }
+        round += 1;
+    }
+    64
+}
+
 // Makes the table and closes it: in how many rounds, or 0 if nothing fits.
 pub fn spread(
     periods: &[u32],
@@ -70,9 +115,5 @@ pub fn spread(
     ensures { λ r. ⌜ Spread (reduced (now (periods .entry)) (now (bars .entry)) m) (tableOf (lows .exit) (widths .exit) (gaps .exit)) r ⌝ }
 {
     widen(periods, lows, widths, gaps);
-    let left = add_arcs(periods, bars, m, lows, widths, &gaps[..]);
-    if left == 0 {
-        return 0;
-    }
-    close(periods, lows, widths, &gaps[..])
+    close(periods, bars, m, lows, widths, &gaps[..])
 }

@@ -48,7 +48,7 @@ fn extend(
     if rounds == 0 {
         return Closed { rounds, arcs: 0 };
     }
-    let count = longer::append_all(
+    let arcs = longer::append_all(
         periods,
         &bars[..],
         m,
@@ -57,11 +57,7 @@ fn extend(
         &gaps[..],
         longer,
     );
-    longer::copy(&bars[..], longer, count);
-    Closed {
-        rounds,
-        arcs: count + m,
-    }
+    Closed { rounds, arcs }
 }
 
 // The longer network of a network, written into the row.

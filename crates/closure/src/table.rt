@@ -171,8 +171,8 @@ fn close_through(
     status
 }
 
-// One round: all spans through every event.
-fn close_round(periods: &[u32], lows: &mut [u32], widths: &mut [u32], gaps: &[u32]) -> u32
+// Narrows all spans through every event.
+pub fn close_round(periods: &[u32], lows: &mut [u32], widths: &mut [u32], gaps: &[u32]) -> u32
     requires { ⌜ Shaped (now periods) (tableOf lows widths gaps) ⌝ }
     ensures { λ r. ⌜ Tighter (Timed (now (periods .entry))) (now (periods .entry)) (tableOf (lows .entry) (widths .entry) (gaps .entry)) (tableOf (lows .exit) (widths .exit) (gaps .entry)) r ⌝ }
 {
@@ -187,23 +187,4 @@ fn close_round(periods: &[u32], lows: &mut [u32], widths: &mut [u32], gaps: &[u3
         k += 1;
     }
     status
-}
-
-// Rounds until no span becomes less wide, 64 at most: how many, or 0 if nothing is left.
-pub fn close(periods: &[u32], lows: &mut [u32], widths: &mut [u32], gaps: &[u32]) -> u32
-    requires { ⌜ Shaped (now periods) (tableOf lows widths gaps) ⌝ }
-    ensures { λ r. ⌜ Tighter (Timed (now (periods .entry))) (now (periods .entry)) (tableOf (lows .entry) (widths .entry) (gaps .entry)) (tableOf (lows .exit) (widths .exit) (gaps .entry)) r ⌝ }
-{
-    let mut round: u32 = 1;
-    while round <= 64 {
-        let r = close_round(periods, lows, widths, gaps);
-        if r == 0 {
-            return 0;
-        }
-        if r < 2 {
-            return round;
-        }
-        round += 1;
-    }
-    64
 }

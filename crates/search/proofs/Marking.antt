@@ -7,7 +7,7 @@ use Prim.Native.Nat.{ℕ, _+_, _*_, _-_, _%_, _<_, _≤_, min}
 use native.Mathlib.Nat.{eq-or-lt-of-le, mod-lt}
 use native.Mathlib.Decide.{decLt}
 use native.Mathlib.Omega.{arith}
-use borrow.Author.Tests.{leb-true, leb-false}
+use borrow.Author.Tests.{leb-true, leb-false, not-false}
 use lib.IntN.{pos, _-ℤ_}
 use mir.Syntax.{w64}
 use mir.Val.{Fits}
@@ -20,7 +20,7 @@ use Rattle.numbers.proofs.Remainders.{remainder-only, same-remainder, mod-cong}
 use Rattle.network.proofs.Scans.{true-false}
 use Rattle.search.specs.Reduced.{nearIn, lastIn, shiftIn, runIn, gapIn, past, metAt}
 use Rattle.search.specs.Threads.{Following}
-use Rattle.search.specs.Marks.{mark, Told, RunMarked, RunTurn, RunsAsk, RunsMarked, RunsTurn, ArcAsks, ArcMarked, Grown, Cleared, Clearing, Joined, Joining, EventAsks, Ruled, EventMarked, EventTurn, FirstFree, Walk}
+use Rattle.search.specs.Marks.{mark, Told, RunMarked, RunTurn, RunsAsk, RunsMarked, RunsTurn, ArcAsks, ArcMarked, Grown, Cleared, Clearing, Joined, Joining, EventAsks, Ruled, EventMarked, EventTurn, FirstFree, SomeFree, Walk}
 
 -- ---- whether a mark is new
 
@@ -389,6 +389,17 @@ module _ (p : ℕ) (row : List Bool) (e : length row ≡ p) where
 
 -- ---- the walk
 
+pub free-first : (row : List Bool) (x : ℕ) (r : Bool) → SomeFree row x 0 r
+free-first row x r = record { none = λ e y a b. absurd (omega arith) }
+
+pub free-more : {row : List Bool} {x k : ℕ} (f : Bool) {g : Bool} → SomeFree row x k f → g ≡ (f || not (mark row (x + k))) → SomeFree row x (k + 1) g
+free-more true s e = record { none = λ z. absurd (true-false e z) }
+free-more {row} {x} {k} false {g} s e = record { none = λ z y a b. pick z y a (eq-or-lt-of-le (omega arith)) }
+  where
+    pick : g ≡ false → (y : ℕ) → x ≤ y → (y ≡ x + k) ⊎ (y < x + k) → mark row y ≡ true
+    pick z y a (inl q) = rw q (not-false _ (sym e ∙ z))
+    pick z y a (inr l) = s .none refl y a l
+
 pub walk-first : {row : List Bool} {x : ℕ} → x ≤ length row → Walk row x x
 walk-first h = record { least = omega arith; most = h; passed = λ z a b. absurd (omega arith) }
 
@@ -402,6 +413,14 @@ module _ {row : List Bool} {x y : ℕ} (w : Walk row x y) where
       pick : (z : ℕ) → x ≤ z → (z ≡ y) ⊎ (z < y) → mark row z ≡ true
       pick z a (inl q) = rw q e
       pick z a (inr l) = w .passed z a l
+
+  -- 64 places passed at once
+  pub walk-block : {r : Bool} → y + 64 ≤ length row → SomeFree row y 64 r → r ≡ false → Walk row x (y + 64)
+  walk-block h f e = record { least = omega (arith, w .least); most = h; passed = λ z a b. pick z a b (decLt z y) }
+    where
+      pick : (z : ℕ) → x ≤ z → z < y + 64 → Dec (z < y) → mark row z ≡ true
+      pick z a b (yes l) = w .passed z a l
+      pick z a b (no n) = f .none e z (omega (arith, n)) b
 
   pub walk-last : length row ≤ y → FirstFree row x y
   walk-last h = record { least = w .least; most = w .most; passed = w .passed; free = λ l. absurd (omega arith) }

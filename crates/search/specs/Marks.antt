@@ -141,7 +141,11 @@ pub record FirstFree (row : List Bool) (x r : ℕ) : Type 0 where
   pub passed : (y : ℕ) → x ≤ y → y < r → mark row y ≡ true
   pub free : r < length row → mark row r ≡ false
 
--- its loop, before place y
+-- where none of the k places from x on is free, all are marked
+pub record SomeFree (row : List Bool) (x k : ℕ) (r : Bool) : Type 0 where
+  pub none : r ≡ false → (y : ℕ) → x ≤ y → y < x + k → mark row y ≡ true
+
+-- the walk before place y
 pub record Walk (row : List Bool) (x y : ℕ) : Type 0 where
   pub least : x ≤ y
   pub most : y ≤ length row

@@ -1,8 +1,8 @@
 // The times that an event can't have beside those of earlier events: marked once in a row, with the earlier events to blame for it; and the walk along it.
 ghost use mathlib.Core.Path.{_≡_};
-ghost use Prim.Native.Nat.{_≤_, min};
+ghost use Prim.Native.Nat.{_+_, _≤_, min};
 ghost use lib.ListN.{length};
-ghost use Rattle.search.specs.Marks.{RunMarked, RunsAsk, RunsMarked, ArcAsks, ArcMarked, EventAsks, EventMarked, FirstFree};
+ghost use Rattle.search.specs.Marks.{RunMarked, RunsAsk, RunsMarked, ArcAsks, ArcMarked, EventAsks, EventMarked, FirstFree, SomeFree, Walk};
 use crate::blame::clear;
 use crate::blame::either;
 use network::rule::entry;
@@ -79,12 +79,41 @@ pub fn mark_event(
     }
 }
 
+// Is one of 64 places free? They are read with no branch in between, and so many at once.
+fn some_free(row: &[bool], from: usize) -> bool
+    requires { ⌜ from + 64 ≤ length (now row) ⌝ }
+    ensures { λ r. ⌜ SomeFree (now (row .entry)) from 64 r ⌝ }
+{
+    let mut free = false;
+    let mut k = 0;
+    while k < 64 {
+        free = either(free, !row[from + k]);
+        k += 1;
+    }
+    free
+}
+
+// Passes over marked places, 64 at a time.
+fn skip(row: &[bool], from: usize) -> usize
+    requires { ⌜ from ≤ length (now row) ⌝ }
+    ensures { λ r. ⌜ Walk (now (row .entry)) from r ⌝ }
+{
+    let mut x = from;
+    while 64 <= row.len() - x {
+        if some_free(row, x) {
+            return x;
+        }
+        x += 64;
+    }
+    x
+}
+
 // The next possible time, from `from` on; or the row's length.
 pub fn next_time(row: &[bool], from: usize) -> usize
     requires { ⌜ from ≤ length (now row) ⌝ }
     ensures { λ r. ⌜ FirstFree (now (row .entry)) from r ⌝ }
 {
-    let mut x = from;
+    let mut x = skip(row, from);
     while x < row.len() {
         if !row[x] {
             return x;

@@ -66,17 +66,13 @@ impl Spans {
         }
     }
 
-    /// How many rounds it took, or 0 if a span is empty.
+    /// How many rounds it took, or 0 if a span is empty. An arc may cut off a piece that it could not
+    /// cut off a wider span, so that each round begins with the arcs.
     fn close(&mut self, periods: &[u32], own: &[Bar]) -> u32 {
-        for bar in own {
-            let low = (bar.shift + bar.run) % bar.gap;
-            let width = bar.gap - 1 - bar.run;
-            let change = self.narrow(bar.near as usize, bar.last as usize, low, width);
-            if matches!(change, Change::Empty) {
+        for round in 1..=ROUNDS {
+            if !self.cut_by_arcs(own) {
                 return 0;
             }
-        }
-        for round in 1..=ROUNDS {
             match self.round(periods) {
                 Change::Empty => return 0,
                 Change::Same => return round,
@@ -84,6 +80,16 @@ impl Spans {
             }
         }
         ROUNDS
+    }
+
+    /// Narrows the span of each arc's ends by the arc; false if one is empty.
+    fn cut_by_arcs(&mut self, own: &[Bar]) -> bool {
+        own.iter().all(|bar| {
+            let low = (bar.shift + bar.run) % bar.gap;
+            let width = bar.gap - 1 - bar.run;
+            let change = self.narrow(bar.near as usize, bar.last as usize, low, width);
+            !matches!(change, Change::Empty)
+        })
     }
 
     /// Each two events by way of each third.
@@ -123,8 +129,9 @@ impl Spans {
         change
     }
 
-    /// Puts an arc for each two events whose span tells something; how many?
-    fn put(&self, n: usize, bars: &mut [Bar]) -> usize {
+    /// Puts the arcs of each event to later ones: one for each span that tells something, and then the
+    /// network's own; how many?
+    fn put(&self, n: usize, own: &[Bar], bars: &mut [Bar]) -> usize {
         let mut count = 0;
         for i in 0..n {
             for j in i + 1..n {
@@ -139,6 +146,10 @@ impl Spans {
                     };
                     count += 1;
                 }
+            }
+            for bar in own.iter().filter(|bar| bar.near as usize == i) {
+                bars[count] = *bar;
+                count += 1;
             }
         }
         count
@@ -176,7 +187,7 @@ pub struct Closed<'a> {
     pub bars: &'a [Bar],
 }
 
-/// Puts the arcs that the spans make, and then the network's own.
+/// Puts the arcs that the spans make and the network's own, sorted by their earlier end.
 pub fn longer<'a>(network: &Network, bars: &'a mut [Bar; MOST]) -> Closed<'a> {
     let (n, m) = (network.periods.len(), network.tail.len());
     let mut own = [Bar::default(); 256];
@@ -188,10 +199,9 @@ pub fn longer<'a>(network: &Network, bars: &'a mut [Bar; MOST]) -> Closed<'a> {
     if rounds == 0 {
         return Closed { rounds, bars: &[] };
     }
-    let count = spans.put(n, bars);
-    bars[count..count + m].copy_from_slice(&own[..m]);
+    let count = spans.put(n, &own[..m], bars);
     Closed {
         rounds,
-        bars: &bars[..count + m],
+        bars: &bars[..count],
     }
 }

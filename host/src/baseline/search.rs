@@ -36,7 +36,7 @@ pub struct Size {
 }
 
 /// A search that is measured is stopped after so many steps, as if it had placed every event.
-const MOST_STEPS: u64 = 1_000_000;
+pub const MOST_STEPS: u64 = 200_000;
 
 impl Count for Size {
     fn add_step(&mut self) -> bool {
@@ -89,6 +89,19 @@ pub fn size_over(network: &Network, closed: &Closed) -> Size {
     search.count
 }
 
+/// The first place from there on without a mark. Where 64 are marked, that is seen at once.
+fn next_time(row: &[bool], from: usize) -> Option<usize> {
+    let mut skipped = from;
+    while let Some(block) = row.get(skipped..skipped + 64) {
+        if block.iter().fold(false, |free, marked| free | !marked) {
+            break;
+        }
+        skipped += 64;
+    }
+    let free = row[skipped..].iter().position(|marked| !marked);
+    free.map(|wait| skipped + wait)
+}
+
 impl<'a, C: Count> Search<'a, C> {
     fn new(periods: &'a [u32], bars: &'a [Bar], count: C) -> Self {
         let mut search = Search {
@@ -120,8 +133,7 @@ impl<'a, C: Count> Search<'a, C> {
         self.mark(times, event, row, blame);
         let mut deeper = [false; 64];
         let mut from = 0;
-        while let Some(wait) = row[from..].iter().position(|marked| !marked) {
-            let time = from + wait;
+        while let Some(time) = next_time(row, from) {
             times[event] = time as u32;
             if self.place(times, event + 1, &mut deeper) {
                 return true;

@@ -3,7 +3,7 @@
 use super::networks::{build, ends, fill, weight};
 use super::Random;
 use crate::compare::Case;
-use crate::network::Arc;
+use crate::network::{Arc, Rows};
 use crate::reference::common_divisor;
 
 /// Few timetables, with and without a feasible one, and rows for solve to write.
@@ -47,6 +47,33 @@ pub fn loose(random: &mut Random) -> Case {
             weight: weight(random),
         }
     });
+    unsolved(random, case)
+}
+
+/// Two ways from the first event to the last, by laps of which only their product is the lap of those
+/// two: they settle the time between them, which the spans can't say. A last arc may rule it out.
+pub fn by_laps(random: &mut Random) -> Case {
+    let (a, b) = random.pick(&[(2, 3), (2, 5), (3, 4), (3, 5)]);
+    let periods = [a * b, a, b, a * b];
+    let lap = i64::from(a * b);
+    let mut arc = |tail: u32, head: u32, width: i64| {
+        let lower = random.between(-lap, lap) as i32;
+        Arc {
+            tail,
+            head,
+            lower,
+            upper: lower + random.between(0, width) as i32,
+            weight: weight(random),
+        }
+    };
+    let arcs = [
+        arc(0, 1, 0),
+        arc(1, 3, 0),
+        arc(0, 2, 0),
+        arc(2, 3, 0),
+        arc(0, 3, lap - 2),
+    ];
+    let case = Case::unwritten(Rows::new(&periods, &arcs));
     unsolved(random, case)
 }
 

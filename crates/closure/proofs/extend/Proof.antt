@@ -1,9 +1,8 @@
--- `closure::extend` meets its contract: the implied arcs and the network's own make a network that serves the search. Assumes nothing.
-use native.Mathlib.Omega.{arith}
+-- `closure::extend` meets its contract: the spans and the network's own arcs make a network that serves the search. Assumes nothing.
 use Rattle.network.specs.Network.{net}
 use borrow.Author.Needs.{needs}
 use Rattle.search.specs.Reduced.{BarsLent}
-use Rattle.closure.proofs.Looks.{spread-asks, refuted, append-asks, copy-asks, all-few, serves-longer}
+use Rattle.closure.proofs.Looks.{spread-asks, refuted, append-asks, serves-longer}
 use Rattle.closure.proofs.extend.Statement.{statement}
 use Rattle.closure.proofs.extend.Tie as tie
 
@@ -16,15 +15,12 @@ reduced c = c .before .before .before .before .before .before .before
 abbrev spread : tie.After-append-all → tie.After-spread
 spread c = c .before .before .before .before .before .before .before .before .before .before .before .before .before
 
-abbrev appended : tie.After-copy → tie.After-append-all
-appended c = c .before .before .before .before .before
-
 -- the rows of scratch for the arcs
 lent : (s : tie.Start) → let a = s .args in BarsLent (net (a .periods .now) (a .tail .now) (a .head .now) (a .lower .now) (a .upper .now) (a .weight .now)) (a .bars .now)
 lent s = record { well = s .pre .asks .well; long = s .pre .bars-long }
 
 reduce-requires : tie.Need-reduce-requires
-reduce-requires c κs = lent (c .before .before .before .before .before .before .before .before .before .before)
+reduce-requires c κs = search needs
 
 spread-requires : tie.Need-spread-requires
 spread-requires c κs =
@@ -55,18 +51,6 @@ append-all-requires c κs =
     let r = reduced s in
     append-asks (lent (start r)) (r .reduce .ensures) (s .spread .ensures) (start r .pre .asks .room)
 
-copy-requires : tie.Need-copy-requires
-copy-requires c κs =
-    let a = c .before .before .before .before in
-    let r = reduced (spread a) in
-    copy-asks (lent (start r)) (r .reduce .ensures) (a .append-all .ensures)
-
-add-t41 : tie.Need-add-t41
-add-t41 c =
-    let a = appended (c .before .before) in
-    let r = reduced (spread a) in
-    omega (arith, all-few (lent (start r)) (r .reduce .ensures) (a .append-all .ensures))
-
 same-length-5 : tie.Need-same-length-5
 same-length-5 c = search needs
 
@@ -84,12 +68,11 @@ same-length-9 c = search needs
 
 returns-2 : tie.Need-returns-2
 returns-2 c =
-    let p = c .before .before in
-    let a = appended p in
+    let a = c .before .before in
     let r = reduced (spread a) in
     record {
       none = refuted (lent (start r)) (r .reduce .ensures) (spread a .spread .ensures);
-      some = λ n. serves-longer (lent (start r)) (r .reduce .ensures) (a .append-all .ensures) (p .copy .ensures);
+      some = λ n. serves-longer (lent (start r)) (r .reduce .ensures) (a .append-all .ensures);
     }
 
 pub extend-spec : {M : Type 1} → statement M
@@ -104,8 +87,6 @@ extend-spec =
     same-length-4
     returns
     append-all-requires
-    copy-requires
-    add-t41
     same-length-5
     same-length-6
     same-length-7

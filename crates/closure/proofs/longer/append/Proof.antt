@@ -1,12 +1,15 @@
 -- `closure::longer::append` meets its contract: it writes the arc that the span implies, or keeps the row. Assumes nothing.
 use native.Mathlib.Omega.{arith}
 use borrow.Author.Needs.{needs}
-use Rattle.closure.proofs.Longers.{span-shape, appended}
+use Rattle.closure.proofs.Longers.{span-shape, span-room, appended}
 use Rattle.closure.proofs.longer.append.Statement.{statement}
 use Rattle.closure.proofs.longer.append.Tie as tie
 
+add-if1 : tie.Need-add-if1
+add-if1 c = omega (arith, c .before .before .before .before .before .before .pre .row .own-few)
+
 returns : tie.Need-returns
-returns c = search needs
+returns c = c .before .before .before .before .before .before .before .pre .row .grows
 
 mul-there : tie.Need-mul-there
 mul-there c = search needs
@@ -30,7 +33,7 @@ add-if2 : tie.Need-add-if2
 add-if2 c = omega (arith, span-shape (c .before .before .before .before .before .before .before .before .before .pre))
 
 returns-2 : tie.Need-returns-2
-returns-2 c = search needs
+returns-2 c = c .before .before .before .before .before .before .before .before .before .before .pre .row .grows
 
 mul-shift : tie.Need-mul-shift
 mul-shift c = search needs
@@ -60,10 +63,15 @@ sub-put-2 : tie.Need-sub-put-2
 sub-put-2 c = search needs
 
 put-requires : tie.Need-put-requires
-put-requires c κs = search needs
+put-requires c κs =
+    let e = c .before .before .before .before .before in
+    let p = e .before .before .before .before .before .before .before .pre in
+    record { few = omega (arith, e .if1 .left, p .row .own-few); arc = span-room p (omega (arith, e .if1 .left)) }
 
 add-result : tie.Need-add-result
-add-result c = search needs
+add-result c =
+    let e = c .before .before .before .before .before .before .before .before in
+    omega (arith, e .if1 .left, e .before .before .before .before .before .before .before .pre .row .own-few)
 
 same-length : tie.Need-same-length
 same-length c = search needs
@@ -78,6 +86,7 @@ pub append-spec : {M : Type 1} → statement M
 append-spec =
     tie.close
     (tie.spec
+    add-if1
     returns
     mul-there
     add-there

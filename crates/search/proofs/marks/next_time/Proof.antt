@@ -5,7 +5,7 @@ use borrow.Author.Needs.{needs}
 use borrow.Author.Tests.{not-true, not-false}
 use lib.ListN.{length}
 use Rattle.search.specs.Marks.{Walk}
-use Rattle.search.proofs.Marking.{walk-first, walk-found, walk-more, walk-last}
+use Rattle.search.proofs.Marking.{walk-found, walk-more, walk-last}
 use Rattle.search.proofs.marks.next_time.Statement.{statement}
 use Rattle.search.proofs.marks.next_time.Tie as tie
 
@@ -15,8 +15,11 @@ Inv-loop row from x₀ x = Walk row from x
 abbrev μ-loop : tie.MeasureT-loop
 μ-loop row from x₀ x = length row - x
 
+skip-requires : tie.Need-skip-requires Inv-loop μ-loop
+skip-requires c κs = c .before .pre
+
 loop-holds : tie.Need-loop-holds Inv-loop μ-loop
-loop-holds c = walk-first (c .pre)
+loop-holds c = c .skip .ensures
 
 shared-slice-read-if1 : tie.Need-shared-slice-read-if1 Inv-loop μ-loop
 shared-slice-read-if1 c = c .before .loop-test .taken
@@ -41,4 +44,4 @@ returns-2 c = walk-last (c .before .loop .inv) (c .loop-test .left)
 pub next-time-spec : {M : Type 1} → statement M
 next-time-spec =
     tie.close
-    (tie.spec Inv-loop μ-loop loop-holds shared-slice-read-if1 returns add-x loop-less loop-again returns-2)
+    (tie.spec Inv-loop μ-loop skip-requires loop-holds shared-slice-read-if1 returns add-x loop-less loop-again returns-2)
