@@ -4,11 +4,13 @@
  *
  * A network is six rows, each lent as pointer and length. The length of periods is the number of
  * events n, the common length of the other five the number of arcs m. An arc's g is the greatest
- * common divisor of the periods at its ends. Each pointer is to as many entries as its length says.
- * No row is kept after a call, and no row that is written may overlap another.
+ * common divisor of the periods at its ends. Each pointer is to as many entries as its length says;
+ * of a row of length 0 it is not used, and may be NULL. No row is kept after a call, and no row that
+ * is written may overlap another.
  *
- * Each answer has a code, a place and a cost. Code 0 is success, and its place is 0. Under any
- * other code the cost is 0 and every row keeps its contents. Codes are tried in this order:
+ * Each answer has a code, a place and a cost. Code 0 is success. Under any other code the cost is 0
+ * and every row keeps its contents. The place is 0 under codes 0, 1, 3, 9 and 10. Codes are tried in
+ * this order:
  *
  *    1  n is 0 or above 64
  *    2  a period is 0 or above 3600; place: the first such event
@@ -99,7 +101,7 @@ struct rubblewaltz_answer rubblewaltz_measure(
 /*
  * The smallest feasible timetable. Writes times 0 to n less 1, and tensions and turns 0 to m less
  * 1, the rest of longer rows is kept. Codes 0 with the cost, 1 to 10, 18. It has no time limit, and
- * needs 356 KiB of stack beside its caller's.
+ * needs 348 KiB of stack beside its caller's.
  */
 struct rubblewaltz_answer rubblewaltz_solve(
     const uint32_t *periods, size_t periods_length,

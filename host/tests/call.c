@@ -1,13 +1,13 @@
 /*
- * Makes each call once on network A of the paper. The status it ends with is 0, or the number of
- * the first call that gives something else than the paper does.
+ * Makes each call once on network A of the paper, and some with rows of length 0 at NULL. The status
+ * it ends with is 0, or the number of the first that gives something else than the paper does.
  */
 #include "rubblewaltz.h"
 
 _Static_assert(sizeof(struct rubblewaltz_answer) == 16, "the answer is 16 bytes");
 _Static_assert(sizeof(struct rubblewaltz_filled) == 32, "that of read and print is 32 bytes");
 
-enum { CHECK = 1, MEASURE, SOLVE, REBUILD, READ, PRINT };
+enum { CHECK = 1, MEASURE, SOLVE, REBUILD, READ, PRINT, EMPTY_ROWS, NO_ROWS };
 
 static const uint32_t periods[] = {60, 60, 60};
 static const uint32_t tail[] = {0, 1, 2}, head[] = {1, 2, 0}, weight[] = {3, 1, 2};
@@ -87,6 +87,25 @@ static int print(void) {
         && same(events, EVENTS_TEXT, EVENTS) && same(arcs, ARCS_TEXT, ARCS);
 }
 
+#define NO_ARCS NULL, 0, NULL, 0, NULL, 0, NULL, 0, NULL, 0
+
+/* One event and no arcs. */
+static int empty_rows(void) {
+    uint32_t times[1] = {9};
+    return is(rubblewaltz_solve(periods, 1, NO_ARCS, times, 1, NULL, 0, NULL, 0), 0, 0, 0)
+        && times[0] == 0
+        && is(rubblewaltz_check(periods, 1, NO_ARCS, times, 1), 0, 0, 0)
+        && is(rubblewaltz_measure(periods, 1, NO_ARCS, times, 1, NULL, 0, NULL, 0), 0, 0, 0)
+        && is(rubblewaltz_rebuild(periods, 1, NO_ARCS, NULL, 0, times, 1), 0, 0, 0);
+}
+
+/* No event either, and no texts. */
+static int no_rows(void) {
+    return is(rubblewaltz_solve(NULL, 0, NO_ARCS, NULL, 0, NULL, 0, NULL, 0), 1, 0, 0)
+        && rubblewaltz_print(NULL, 0, NO_ARCS, NULL, 0, NULL, 0).code == 1
+        && rubblewaltz_read(NULL, 0, NULL, 0, NULL, 0, NO_ARCS).code == 9;
+}
+
 int main(void) {
     if (!check()) return CHECK;
     if (!measure()) return MEASURE;
@@ -94,5 +113,7 @@ int main(void) {
     if (!rebuild()) return REBUILD;
     if (!read()) return READ;
     if (!print()) return PRINT;
+    if (!empty_rows()) return EMPTY_ROWS;
+    if (!no_rows()) return NO_ROWS;
     return 0;
 }

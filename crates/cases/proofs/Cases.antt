@@ -9,8 +9,8 @@ use Rattle.network.specs.Refusals.{answerOf, after}
 use Rattle.network.specs.Table.{outside, outsideℤ, uneven, strays, repeats, repeated, refusalsWith}
 use Rattle.network.specs.Rows.{written, short, noted}
 use Rattle.search.specs.Reduced.{metAt, putArc, putArcs}
-use Rattle.search.specs.Model.{reducedFor, hinders, fits, tries, find, smallestOf}
-use Rattle.walks.specs.Model.{own, step, run, answer}
+use Rattle.search.proofs.Model.{reducedFor, hinders, fits, tries, find, smallestOf}
+use Rattle.walks.proofs.Model.{own, step, run, answer}
 use Rattle.timetable.specs.Measure.{measureRefusals, measureOf}
 use Rattle.timetable.specs.Solve.{solveRefusals, solveJudged}
 use Rattle.timetable.specs.Rebuild.{rebuildRefusals, rebuildJudged}

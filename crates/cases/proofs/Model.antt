@@ -10,8 +10,8 @@ use Rattle.network.specs.Network.{Network, events, period}
 use Rattle.network.specs.PublicRule.{costOf}
 use Rattle.network.specs.Refusals.{answer, after}
 use Rattle.network.specs.Rows.{written, ArcRows, noted}
-use Rattle.search.specs.Model.{smallestOf}
-use Rattle.walks.specs.Model.{Out, timetable, refused, answerFor}
+use Rattle.search.proofs.Model.{smallestOf}
+use Rattle.walks.proofs.Model.{Out, timetable, refused, answerFor}
 use Rattle.timetable.specs.Measure.{measureOf}
 use Rattle.timetable.specs.Solve.{solveJudged}
 use Rattle.timetable.specs.Rebuild.{rebuildJudged}

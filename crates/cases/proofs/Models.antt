@@ -11,9 +11,9 @@ use Rattle.numbers.specs.Row.{atℤ}
 use Rattle.network.specs.declared.Answer.{Answer}
 use Rattle.network.specs.Network.{Network, events, arcs, period}
 use Rattle.network.specs.Rows.{ArcRows}
-use Rattle.search.specs.Model.{smallestOf}
+use Rattle.search.proofs.Model.{smallestOf}
 use Rattle.search.proofs.Models.{Right as Searched, smallest-right}
-use Rattle.walks.specs.Model.{Out, timetable, refused as stuck, answerFor}
+use Rattle.walks.proofs.Model.{Out, timetable, refused as stuck, answerFor}
 use Rattle.walks.proofs.Walks.{closed}
 use Rattle.walks.proofs.Labels.{anchored}
 use Rattle.walks.proofs.Models.{Right as Walked, answer-right}

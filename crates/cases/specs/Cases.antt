@@ -36,6 +36,14 @@ one periods from to l u = net periods (from ∷ []) (to ∷ []) (pos l ∷ []) (
 abbrev parallel : List ℕ → List ℤ → List ℤ → Network
 parallel periods l u = net periods (replicate (length l) 0) (replicate (length l) 1) l u (replicate (length l) 1)
 
+-- two events of this period, an arc there and an arc back with the same bounds
+abbrev thereAndBack : ℕ → ℕ → ℕ → Network
+thereAndBack p l u = net (p ∷ p ∷ []) (0 ∷ 1 ∷ []) (1 ∷ 0 ∷ []) (signed (l ∷ l ∷ [])) (signed (u ∷ u ∷ [])) (1 ∷ 1 ∷ [])
+
+-- an event of period 60 and one of 20, and an arc from -35 to 0
+abbrev belowZero : Network
+belowZero = net (60 ∷ 20 ∷ []) (0 ∷ []) (1 ∷ []) (negsuc 34 ∷ []) (pos 0 ∷ []) (1 ∷ [])
+
 -- ---- calls; each entry of a lent row that is to be written holds 99, a number that no case writes
 
 -- k such entries
@@ -98,11 +106,13 @@ cases =
     solves A₁ (0 ∷ 10 ∷ 30 ∷ []) (10 ∷ 20 ∷ 30 ∷ []) (0 ∷ 0 ∷ 1 ∷ []) 4  -- P1
     ∷ solvesIn 2 A₁ (0 ∷ 10 ∷ 30 ∷ []) (10 ∷ 20 ∷ 30 ∷ []) (0 ∷ 0 ∷ 1 ∷ []) 4  -- P1 in rows longer than needed
     ∷ turnsShort A₁  -- P1 in a row of turns too short
+    ∷ measures A₁ (0 ∷ 10 ∷ 30 ∷ []) (signed (10 ∷ 20 ∷ 30 ∷ [])) (signed (0 ∷ 0 ∷ 1 ∷ [])) 4  -- P1's times measured
     ∷ refuses (A (10 ∷ 10 ∷ 10 ∷ []) (12 ∷ 12 ∷ 12 ∷ [])) 10 0  -- P2
     ∷ solves (A (20 ∷ 20 ∷ 20 ∷ []) (20 ∷ 20 ∷ 20 ∷ [])) (0 ∷ 20 ∷ 40 ∷ []) (20 ∷ 20 ∷ 20 ∷ []) (0 ∷ 0 ∷ 1 ∷ []) 0  -- P3
     ∷ refuses (A (19 ∷ 20 ∷ 20 ∷ []) (19 ∷ 20 ∷ 20 ∷ [])) 10 0  -- P3 with arc 0 at [19,19]
     ∷ solves (one (60 ∷ 20 ∷ []) 0 1 25 30) (0 ∷ 5 ∷ []) (25 ∷ []) (1 ∷ []) 0  -- P4
     ∷ solves (one (60 ∷ 20 ∷ []) 1 0 25 30) (0 ∷ 10 ∷ []) (30 ∷ []) (2 ∷ []) 5  -- P5
+    ∷ measures (one (60 ∷ 20 ∷ []) 1 0 25 30) (0 ∷ 10 ∷ []) (signed (30 ∷ [])) (signed (2 ∷ [])) 5  -- P5's times measured
     ∷ solves (parallel (60 ∷ 60 ∷ []) (signed (10 ∷ 14 ∷ [])) (signed (15 ∷ 20 ∷ []))) (0 ∷ 14 ∷ []) (14 ∷ 14 ∷ []) (0 ∷ 0 ∷ []) 4  -- P6
     ∷ rebuilds A₁ (12 ∷ 20 ∷ 28 ∷ []) (0 ∷ 12 ∷ 32 ∷ []) 6  -- P7
     ∷ rebuildsIn 2 A₁ (12 ∷ 20 ∷ 28 ∷ []) (0 ∷ 12 ∷ 32 ∷ []) 6  -- P7 in a row longer than needed
@@ -113,10 +123,10 @@ cases =
     ∷ solves (one (60 ∷ 60 ∷ []) 0 1 0 59) (0 ∷ 0 ∷ []) (0 ∷ []) (0 ∷ []) 0  -- P11
     ∷ solves (one (60 ∷ 60 ∷ []) 0 1 0 60) (0 ∷ 0 ∷ []) (0 ∷ []) (0 ∷ []) 0  -- P11 with [0,60]
     ∷ measures (one (60 ∷ 60 ∷ []) 0 1 30 30) (50 ∷ 20 ∷ []) (pos 30 ∷ []) (pos 1 ∷ []) 0  -- the clerks' minutes 50 and 20
-    ∷ measures (net (60 ∷ 20 ∷ []) (0 ∷ []) (1 ∷ []) (negsuc 34 ∷ []) (pos 0 ∷ []) (1 ∷ [])) (0 ∷ 5 ∷ []) (negsuc 34 ∷ []) (negsuc 1 ∷ []) 0  -- below zero, by 20
+    ∷ measures belowZero (0 ∷ 5 ∷ []) (negsuc 34 ∷ []) (negsuc 1 ∷ []) 0  -- below zero, by 20
     ∷ refuses (parallel (60 ∷ 60 ∷ []) (negsuc 49 ∷ pos 10 ∷ []) (negsuc 44 ∷ pos 15 ∷ [])) 18 1  -- a rule entered twice, -50 and 10 by 60
     ∷ refuses (parallel (60 ∷ 20 ∷ []) (signed (0 ∷ 20 ∷ [])) (signed (59 ∷ 39 ∷ []))) 18 1  -- both as wide as their period
     ∷ refuses (parallel (60 ∷ 60 ∷ []) (signed (10 ∷ 14 ∷ 14 ∷ 10 ∷ [])) (signed (15 ∷ 20 ∷ 20 ∷ 15 ∷ []))) 18 2  -- a pair inside another
     ∷ rejects (parallel (60 ∷ 20 ∷ []) (signed (5 ∷ 5 ∷ [])) (signed (9 ∷ 9 ∷ []))) (5 ∷ 5 ∷ []) 18 1  -- also where periods differ
-    ∷ solves (net (60 ∷ 60 ∷ []) (0 ∷ 1 ∷ []) (1 ∷ 0 ∷ []) (signed (10 ∷ 10 ∷ [])) (signed (50 ∷ 50 ∷ [])) (1 ∷ 1 ∷ [])) (0 ∷ 10 ∷ []) (10 ∷ 50 ∷ []) (0 ∷ 1 ∷ []) 40  -- there and back is no repeat
+    ∷ solves (thereAndBack 60 10 50) (0 ∷ 10 ∷ []) (10 ∷ 50 ∷ []) (0 ∷ 1 ∷ []) 40  -- there and back is no repeat
     ∷ []

@@ -6,6 +6,7 @@ use mathlib.Core.List.{List}
 use Prim.Native.Nat.{ℕ, _+_, _*_, _<_, _≤_}
 use lib.ListN.{length, set}
 use denote.Ref.{RefT, now}
+use denote.Triple.Both.{Both}
 use Rattle.numbers.specs.Divisor.{gcd}
 use Rattle.numbers.specs.Row.{at}
 use Rattle.search.specs.Reduced.{Reduced, Fitting, Sized}
@@ -22,6 +23,16 @@ table l w g = record { lows = l; widths = w; gaps = g }
 -- of three lent rows
 abbrev pub tableOf : RefT (List ℕ) → RefT (List ℕ) → RefT (List ℕ) → Table
 tableOf l w g = table (now l) (now w) (now g)
+
+-- of three parameters of a call: as they are lent, as the call leaves them, and where it only reads the gaps
+abbrev pub tableAt : {A B C : Type 0} → Both (RefT (List ℕ)) A → Both (RefT (List ℕ)) B → Both (RefT (List ℕ)) C → Table
+tableAt l w g = tableOf (l .entry) (w .entry) (g .entry)
+
+abbrev pub tableLeft : {A B C : Type 0} → Both A (RefT (List ℕ)) → Both B (RefT (List ℕ)) → Both C (RefT (List ℕ)) → Table
+tableLeft l w g = tableOf (l .exit) (w .exit) (g .exit)
+
+abbrev pub spansLeft : {A B C : Type 0} → Both A (RefT (List ℕ)) → Both B (RefT (List ℕ)) → Both (RefT (List ℕ)) C → Table
+spansLeft l w g = tableOf (l .exit) (w .exit) (g .entry)
 
 abbrev pub spot : ℕ → ℕ → ℕ
 spot i j = 64 * i + j

@@ -1,6 +1,6 @@
 // The table of spans for the arcs of a network.
-ghost use Rattle.search.specs.Reduced.{reduced, Fitting};
-ghost use Rattle.closure.specs.Tables.{tableOf, ArcsAsk, ArcAsks, Tighter, SpreadAsks, Spread};
+ghost use Rattle.search.specs.Reduced.{reduced, reducedAt, Fitting};
+ghost use Rattle.closure.specs.Tables.{tableOf, tableAt, spansLeft, tableLeft, ArcsAsk, ArcAsks, Tighter, SpreadAsks, Spread};
 use crate::table::close_round;
 use crate::table::narrow;
 use crate::table::widen;
@@ -17,7 +17,7 @@ fn add_arc(
     arc: usize,
 ) -> u32
     requires { ⌜ ArcAsks (reduced (now periods) (now bars) m) (tableOf lows widths gaps) arc ⌝ }
-    ensures { λ r. ⌜ Tighter (Fitting (reduced (now (periods .entry)) (now (bars .entry)) m)) (now (periods .entry)) (tableOf (lows .entry) (widths .entry) (gaps .entry)) (tableOf (lows .exit) (widths .exit) (gaps .entry)) r ⌝ }
+    ensures { λ r. ⌜ Tighter (Fitting (reducedAt periods bars m)) (now (periods .entry)) (tableAt lows widths gaps) (spansLeft lows widths gaps) r ⌝ }
 {
     let at = 5 * arc;
     let run = bars[at + 3];
@@ -44,7 +44,7 @@ fn add_arcs(
     gaps: &[u32],
 ) -> u32
     requires { ⌜ ArcsAsk (reduced (now periods) (now bars) m) (tableOf lows widths gaps) ⌝ }
-    ensures { λ r. ⌜ Tighter (Fitting (reduced (now (periods .entry)) (now (bars .entry)) m)) (now (periods .entry)) (tableOf (lows .entry) (widths .entry) (gaps .entry)) (tableOf (lows .exit) (widths .exit) (gaps .entry)) r ⌝ }
+    ensures { λ r. ⌜ Tighter (Fitting (reducedAt periods bars m)) (now (periods .entry)) (tableAt lows widths gaps) (spansLeft lows widths gaps) r ⌝ }
 {
     let mut arc = 0;
     while arc < m {
@@ -67,7 +67,7 @@ fn whole_round(
     gaps: &[u32],
 ) -> u32
     requires { ⌜ ArcsAsk (reduced (now periods) (now bars) m) (tableOf lows widths gaps) ⌝ }
-    ensures { λ r. ⌜ Tighter (Fitting (reduced (now (periods .entry)) (now (bars .entry)) m)) (now (periods .entry)) (tableOf (lows .entry) (widths .entry) (gaps .entry)) (tableOf (lows .exit) (widths .exit) (gaps .entry)) r ⌝ }
+    ensures { λ r. ⌜ Tighter (Fitting (reducedAt periods bars m)) (now (periods .entry)) (tableAt lows widths gaps) (spansLeft lows widths gaps) r ⌝ }
 {
     let left = add_arcs(periods, bars, m, lows, widths, gaps);
     if left == 0 {
@@ -86,7 +86,7 @@ fn close(
     gaps: &[u32],
 ) -> u32
     requires { ⌜ ArcsAsk (reduced (now periods) (now bars) m) (tableOf lows widths gaps) ⌝ }
-    ensures { λ r. ⌜ Tighter (Fitting (reduced (now (periods .entry)) (now (bars .entry)) m)) (now (periods .entry)) (tableOf (lows .entry) (widths .entry) (gaps .entry)) (tableOf (lows .exit) (widths .exit) (gaps .entry)) r ⌝ }
+    ensures { λ r. ⌜ Tighter (Fitting (reducedAt periods bars m)) (now (periods .entry)) (tableAt lows widths gaps) (spansLeft lows widths gaps) r ⌝ }
 {
     let mut round: u32 = 1;
     while round <= 64 {
@@ -112,7 +112,7 @@ pub fn spread(
     gaps: &mut [u32],
 ) -> u32
     requires { ⌜ SpreadAsks (reduced (now periods) (now bars) m) (tableOf lows widths gaps) ⌝ }
-    ensures { λ r. ⌜ Spread (reduced (now (periods .entry)) (now (bars .entry)) m) (tableOf (lows .exit) (widths .exit) (gaps .exit)) r ⌝ }
+    ensures { λ r. ⌜ Spread (reducedAt periods bars m) (tableLeft lows widths gaps) r ⌝ }
 {
     widen(periods, lows, widths, gaps);
     close(periods, bars, m, lows, widths, &gaps[..])

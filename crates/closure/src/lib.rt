@@ -2,7 +2,7 @@
 // difference of their times in every fitting timetable, cut down through every third event; the search takes the spans as arcs that the network implies.
 ghost use mathlib.Core.Path.{_≡_};
 ghost use lib.ListN.{length};
-ghost use Rattle.network.specs.Network.{netOf};
+ghost use Rattle.network.specs.Network.{netOf, netAt};
 ghost use Rattle.search.specs.Looked.{Looked, Asked};
 ghost use Rattle.closure.specs.Tables.{tableOf};
 ghost use Rattle.closure.specs.Longer.{Lent, LengthenAsks, Lengthened};
@@ -40,7 +40,7 @@ fn extend(
     longer: &mut [u32],
 ) -> Closed
     requires { ⌜ Lent (netOf periods tail head lower upper weight) (now bars) (tableOf lows widths gaps) (now longer) ⌝ }
-    ensures { λ r. ⌜ Lengthened (netOf (periods .entry) (tail .entry) (head .entry) (lower .entry) (upper .entry) (weight .entry)) (now (longer .exit)) r ⌝ }
+    ensures { λ r. ⌜ Lengthened (netAt periods tail head lower upper weight) (now (longer .exit)) r ⌝ }
 {
     let m = tail.len();
     search::reduce::reduce(periods, tail, head, lower, upper, weight, bars);
@@ -71,7 +71,7 @@ pub fn lengthen(
     longer: &mut [u32],
 ) -> Closed
     requires { ⌜ LengthenAsks (netOf periods tail head lower upper weight) (now longer) ⌝ }
-    ensures { λ r. ⌜ Lengthened (netOf (periods .entry) (tail .entry) (head .entry) (lower .entry) (upper .entry) (weight .entry)) (now (longer .exit)) r ⌝ }
+    ensures { λ r. ⌜ Lengthened (netAt periods tail head lower upper weight) (now (longer .exit)) r ⌝ }
 {
     let m = tail.len();
     let mut bars = [0u32; 1280];
@@ -106,7 +106,7 @@ fn look(
 ) -> bool
     requires { ⌜ Asked (netOf periods tail head lower upper weight) (now times) ⌝ }
     requires { ⌜ length (now longer) ≡ 11360 ⌝ }
-    ensures { λ r. ⌜ Looked (netOf (periods .entry) (tail .entry) (head .entry) (lower .entry) (upper .entry) (weight .entry)) (now (times .exit)) r ⌝ }
+    ensures { λ r. ⌜ Looked (netAt periods tail head lower upper weight) (now (times .exit)) r ⌝ }
 {
     let closed = lengthen(periods, tail, head, lower, upper, weight, longer);
     if closed.rounds == 0 {
@@ -127,7 +127,7 @@ pub fn smallest(
     times: &mut [u32],
 ) -> bool
     requires { ⌜ Asked (netOf periods tail head lower upper weight) (now times) ⌝ }
-    ensures { λ r. ⌜ Looked (netOf (periods .entry) (tail .entry) (head .entry) (lower .entry) (upper .entry) (weight .entry)) (now (times .exit)) r ⌝ }
+    ensures { λ r. ⌜ Looked (netAt periods tail head lower upper weight) (now (times .exit)) r ⌝ }
 {
     let mut longer = [0u32; 11360];
     look(

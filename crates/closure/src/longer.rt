@@ -1,6 +1,6 @@
 // The longer network: for each event, the spans to later ones as arcs, and then the network's own arcs to later ones. All arcs are sorted by their earlier
 // end, so that an event's time is ruled out first by the arc to the earliest event that does so, and a failed placing blames the earliest.
-ghost use Rattle.search.specs.Reduced.{reduced};
+ghost use Rattle.search.specs.Reduced.{reduced, reducedAt};
 ghost use Rattle.closure.specs.Tables.{tableOf};
 ghost use Rattle.closure.specs.Longer.{PairAsks, RowAsks, Grows, PickAsks, Picks, OwnAsks, Picked, AppendAsks, Whole};
 use network::rule::entry;
@@ -22,7 +22,7 @@ fn append(
     count: usize,
 ) -> usize
     requires { ⌜ PairAsks (reduced (now periods) (now bars) m) (tableOf lows widths gaps) (now longer) i j own count ⌝ }
-    ensures { λ r. ⌜ Grows (reduced (now (periods .entry)) (now (bars .entry)) m) (now (longer .exit)) i own r ⌝ }
+    ensures { λ r. ⌜ Grows (reducedAt periods bars m) (now (longer .exit)) i own r ⌝ }
 {
     // 64 events have no more pairs: this test stands in place of a proof that counts them.
     if 2016 + own <= count {
@@ -61,7 +61,7 @@ fn append_row(
     first: usize,
 ) -> usize
     requires { ⌜ RowAsks (reduced (now periods) (now bars) m) (tableOf lows widths gaps) (now longer) i own first ⌝ }
-    ensures { λ r. ⌜ Grows (reduced (now (periods .entry)) (now (bars .entry)) m) (now (longer .exit)) i own r ⌝ }
+    ensures { λ r. ⌜ Grows (reducedAt periods bars m) (now (longer .exit)) i own r ⌝ }
 {
     let mut count = first;
     let mut j = i + 1;
@@ -115,7 +115,7 @@ fn append_own(
     first: usize,
 ) -> usize
     requires { ⌜ OwnAsks (reduced (now periods) (now bars) m) (now longer) i first ⌝ }
-    ensures { λ r. ⌜ Picked (reduced (now (periods .entry)) (now (bars .entry)) m) (now (longer .exit)) i first r ⌝ }
+    ensures { λ r. ⌜ Picked (reducedAt periods bars m) (now (longer .exit)) i first r ⌝ }
 {
     let mut count = first;
     let mut arc = 0;
@@ -137,7 +137,7 @@ pub fn append_all(
     longer: &mut [u32],
 ) -> usize
     requires { ⌜ AppendAsks (reduced (now periods) (now bars) m) (tableOf lows widths gaps) (now longer) ⌝ }
-    ensures { λ r. ⌜ Whole (reduced (now (periods .entry)) (now (bars .entry)) m) (now (longer .exit)) r ⌝ }
+    ensures { λ r. ⌜ Whole (reducedAt periods bars m) (now (longer .exit)) r ⌝ }
 {
     let mut own = 0;
     let mut count = 0;

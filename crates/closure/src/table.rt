@@ -3,7 +3,8 @@ ghost use mathlib.Core.Path.{_≡_};
 ghost use Prim.Native.Nat.{_+_, _%_, _<_, max};
 ghost use Rattle.numbers.specs.Divisor.{IsGcd};
 ghost use Rattle.numbers.specs.Row.{at};
-ghost use Rattle.closure.specs.Tables.{tableOf, OpenAsks, GapAsks, WidenAsks, Widening, Opened, NarrowAsks, Narrowed, Timed, Tighter, Shaped, Through, Pair, Three};
+ghost use Rattle.closure.specs.Tables.{tableOf, tableAt, tableLeft, spansLeft, OpenAsks, GapAsks, WidenAsks, Widening, Opened};
+ghost use Rattle.closure.specs.Tables.{NarrowAsks, Narrowed, Timed, Tighter, Shaped, Through, Pair, Three};
 use crate::cut::cut;
 use crate::cut::turned;
 
@@ -28,7 +29,7 @@ fn gap_of(periods: &[u32], gaps: &[u32], i: usize, j: usize) -> u32
 // Gives event i and each other their gap, and a span that holds every difference.
 fn widen_row(periods: &[u32], lows: &mut [u32], widths: &mut [u32], gaps: &mut [u32], i: usize)
     requires { ⌜ WidenAsks (now periods) (tableOf lows widths gaps) i ⌝ }
-    ensures { λ _. ⌜ Widening (now (periods .entry)) (tableOf (lows .exit) (widths .exit) (gaps .exit)) (i + 1) 0 ⌝ }
+    ensures { λ _. ⌜ Widening (now (periods .entry)) (tableLeft lows widths gaps) (i + 1) 0 ⌝ }
 {
     let mut j = 0;
     while j < periods.len() {
@@ -44,7 +45,7 @@ fn widen_row(periods: &[u32], lows: &mut [u32], widths: &mut [u32], gaps: &mut [
 // Gives each two events theirs.
 pub fn widen(periods: &[u32], lows: &mut [u32], widths: &mut [u32], gaps: &mut [u32])
     requires { ⌜ OpenAsks (now periods) (tableOf lows widths gaps) ⌝ }
-    ensures { λ _. ⌜ Opened (now (periods .entry)) (tableOf (lows .exit) (widths .exit) (gaps .exit)) ⌝ }
+    ensures { λ _. ⌜ Opened (now (periods .entry)) (tableLeft lows widths gaps) ⌝ }
 {
     let mut i = 0;
     while i < periods.len() {
@@ -64,7 +65,7 @@ pub fn narrow(
     width: u32,
 ) -> u32
     requires { ⌜ NarrowAsks (tableOf lows widths gaps) i j low width ⌝ }
-    ensures { λ r. ⌜ Narrowed (tableOf (lows .entry) (widths .entry) (gaps .entry)) i j low width (tableOf (lows .exit) (widths .exit) (gaps .entry)) r ⌝ }
+    ensures { λ r. ⌜ Narrowed (tableAt lows widths gaps) i j low width (spansLeft lows widths gaps) r ⌝ }
 {
     let there = 64 * i + j;
     let back = 64 * j + i;
@@ -106,7 +107,7 @@ fn via(
     j: usize,
 ) -> u32
     requires { ⌜ Three (now periods) (tableOf lows widths gaps) i k j ⌝ }
-    ensures { λ r. ⌜ Tighter (Timed (now (periods .entry))) (now (periods .entry)) (tableOf (lows .entry) (widths .entry) (gaps .entry)) (tableOf (lows .exit) (widths .exit) (gaps .entry)) r ⌝ }
+    ensures { λ r. ⌜ Tighter (Timed (now (periods .entry))) (now (periods .entry)) (tableAt lows widths gaps) (spansLeft lows widths gaps) r ⌝ }
 {
     let first = 64 * i + k;
     let second = 64 * k + j;
@@ -132,7 +133,7 @@ fn close_row(
     k: usize,
 ) -> u32
     requires { ⌜ Pair (now periods) (tableOf lows widths gaps) i k ⌝ }
-    ensures { λ r. ⌜ Tighter (Timed (now (periods .entry))) (now (periods .entry)) (tableOf (lows .entry) (widths .entry) (gaps .entry)) (tableOf (lows .exit) (widths .exit) (gaps .entry)) r ⌝ }
+    ensures { λ r. ⌜ Tighter (Timed (now (periods .entry))) (now (periods .entry)) (tableAt lows widths gaps) (spansLeft lows widths gaps) r ⌝ }
 {
     let mut status: u32 = 1;
     let mut j = i + 1;
@@ -156,7 +157,7 @@ fn close_through(
     k: usize,
 ) -> u32
     requires { ⌜ Through (now periods) (tableOf lows widths gaps) k ⌝ }
-    ensures { λ r. ⌜ Tighter (Timed (now (periods .entry))) (now (periods .entry)) (tableOf (lows .entry) (widths .entry) (gaps .entry)) (tableOf (lows .exit) (widths .exit) (gaps .entry)) r ⌝ }
+    ensures { λ r. ⌜ Tighter (Timed (now (periods .entry))) (now (periods .entry)) (tableAt lows widths gaps) (spansLeft lows widths gaps) r ⌝ }
 {
     let mut status: u32 = 1;
     let mut i = 0;
@@ -174,7 +175,7 @@ fn close_through(
 // Narrows all spans through every event.
 pub fn close_round(periods: &[u32], lows: &mut [u32], widths: &mut [u32], gaps: &[u32]) -> u32
     requires { ⌜ Shaped (now periods) (tableOf lows widths gaps) ⌝ }
-    ensures { λ r. ⌜ Tighter (Timed (now (periods .entry))) (now (periods .entry)) (tableOf (lows .entry) (widths .entry) (gaps .entry)) (tableOf (lows .exit) (widths .exit) (gaps .entry)) r ⌝ }
+    ensures { λ r. ⌜ Tighter (Timed (now (periods .entry))) (now (periods .entry)) (tableAt lows widths gaps) (spansLeft lows widths gaps) r ⌝ }
 {
     let mut status: u32 = 1;
     let mut k = 0;

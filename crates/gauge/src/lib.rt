@@ -1,5 +1,5 @@
 // What the closure makes of a network, exported for the tests: no contract says how strong the closure is, so they hold it to numbers that are known.
-ghost use Rattle.network.specs.Network.{netOf};
+ghost use Rattle.network.specs.Network.{netAt};
 ghost use Rattle.gauge.specs.Gauge.{Shows};
 
 // A code of the table, or 0 and what the closure answered.
@@ -21,7 +21,7 @@ pub extern "C" fn rubblewaltz_gauge(
     weight: &[u32],
     longer: &mut [u32],
 ) -> Gauge
-    ensures { λ r. ⌜ Shows (netOf (periods .entry) (tail .entry) (head .entry) (lower .entry) (upper .entry) (weight .entry)) (now (longer .exit)) r ⌝ }
+    ensures { λ r. ⌜ Shows (netAt periods tail head lower upper weight) (now (longer .exit)) r ⌝ }
 {
     let found = network::table::refusal(periods, tail, head, lower, upper, weight, tail.len());
     if found.code != 0 {

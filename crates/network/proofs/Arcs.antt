@@ -17,10 +17,10 @@ use lib.Seq.{getD-set-same, getD-set-other}
 use Rattle.numbers.proofs.Bits.{of}
 use Rattle.numbers.specs.Row.{at}
 use Rattle.network.specs.Network.{Network, arcs, tail, head, lower, upper, weight}
-use Rattle.network.specs.PublicRule.{arcPeriod, slackBy, slack, tension, workingBy, working, widthOf, arcCost, costTo}
+use Rattle.network.specs.PublicRule.{arcPeriod, slackBy, slack, tension, workingBy, working, widthOf, arcCost, costTo, costOf}
 use Rattle.network.specs.Rows.{written, ArcRows, short, shortFor}
 use Rattle.network.specs.Trial.{Inside, ArcOf, AsksPeriod}
-use Rattle.network.specs.Inner.{Span, TimedArc, TimedEnd}
+use Rattle.network.specs.Inner.{Span, Timed, TimedArc, TimedEnd}
 use Rattle.network.proofs.Sound.{sound, arc-period, neither}
 use Rattle.network.proofs.Width.{narrow, width-below, slack-below}
 
@@ -145,6 +145,17 @@ module _ {N : Network} {t : List ℕ} {a sum x s : ℕ} (c : TimedArc N t a) (p 
     is = (λ j. p .is j + costs j) ∙ ap (costTo N t) (sym (add-one a));
     small = omega (arith, costs, cost-small c, p .small);
   }
+
+-- no cost passes 34 bits
+cost-to : {N : Network} {t : List ℕ} → Timed N t → (m : ℕ) → m ≤ arcs N → costTo N t m ≤ m * 36000000
+unfolding costTo
+cost-to p zero h = omega arith
+cost-to {N} {t} p (suc m) h =
+    let c : TimedArc N t m = record { timed = p; arc = omega arith } in
+    omega (arith, cost-to p m (omega arith), cost-small c)
+
+pub cost-below : {N : Network} {t : List ℕ} → Timed N t → costOf N t < 17179869184
+cost-below {N} p = omega (arith, cost-to p (arcs N) (omega arith), sound N (p .well) .even .few-arcs)
 
 pub summed-all : {N : Network} {t : List ℕ} {a m sum : ℕ} → Summed N t a sum → a ≡ m → sum ≡ costTo N t m
 summed-all {N} {t} p e = p .is ∙ ap (costTo N t) e

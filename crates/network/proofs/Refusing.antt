@@ -1,5 +1,6 @@
 -- From what a scan found to the answer of a table, one law for each way, and rows and counts after it. Assumes nothing.
 use mathlib.Core.Path.{_≡_, refl, sym, ap, _∙_}
+use mathlib.Core.Logic.{_⊎_, inl, inr}
 use mathlib.Core.List.{List, [], _∷_, _++_}
 use mathlib.Core.Bool.{Bool, true, false, cond, not, _&&_, _||_}
 use Prim.Native.Nat.{ℕ, zero, suc, _≤_, _<_}
@@ -10,8 +11,7 @@ use lib.Dec.{ltb, eqb}
 use Rattle.network.specs.declared.Answer.{Answer}
 use Rattle.network.specs.declared.Filled.{Filled}
 use Rattle.network.specs.First.{First}
-use Rattle.network.specs.Refusals.{Refusal, answer, once, placeOf, answerOf, after, filled, filledAs}
-use Rattle.network.specs.Trial.{never, named}
+use Rattle.network.specs.Refusals.{Refusal, answer, once, placeOf, answerOf, after, filled, filledAs, never, named}
 use Rattle.network.proofs.Scans.{first-is, first-one, true-false}
 
 -- a line applies nowhere
@@ -46,6 +46,19 @@ passed {r} rs x c = go (ltb (placeOf r) (r .places)) refl
         absurd (true-false (first-is (r .applies) (r .places) .found h) (c .nowhere (placeOf r) h))
     go false e = refl
 
+-- a refusal costs nothing, and a success what was worked out
+abbrev pub Costs : ℕ → Answer → Type 0
+Costs x a = (a .cost ≡ 0) ⊎ ((a .code ≡ 0) × (a .cost ≡ x))
+
+pub costs : (rs : List Refusal) (x : ℕ) → Costs x (answerOf rs x)
+unfolding answerOf
+costs [] x = inr (refl, refl)
+costs (r ∷ rs) x = go (ltb (placeOf r) (r .places)) (costs rs x)
+  where
+    go : (b : Bool) → Costs x (answerOf rs x) → Costs x (cond b (answer (r .code) (placeOf r) 0) (answerOf rs x))
+    go true c = inl refl
+    go false c = c
+
 -- ---- a table in parts: none of the first lines applies, or one does
 
 pub data AllClear : List Refusal → Type 0 where
@@ -55,6 +68,10 @@ pub data AllClear : List Refusal → Type 0 where
 pub front : (rs ss : List Refusal) → AllClear (rs ++ ss) → AllClear rs
 front [] ss c = none
 front (r ∷ rs) ss (more k c) = more k (front rs ss c)
+
+pub back : (rs ss : List Refusal) → AllClear (rs ++ ss) → AllClear ss
+back [] ss c = c
+back (r ∷ rs) ss (more k c) = back rs ss c
 
 -- the first k lines, each by its place
 pub all-taken : (k : ℕ) (rs : List Refusal) → ((j : ℕ) → j < k → Clear (getD rs j never)) → AllClear (take k rs)
@@ -104,6 +121,11 @@ pub and-right : (a b : Bool) → a && b ≡ true → b ≡ true
 and-right true b e = e
 and-right false b e = absurd (true-false e refl)
 
+pub coded-both : (rs ss : List Refusal) → coded rs ≡ true → coded ss ≡ true → coded (rs ++ ss) ≡ true
+unfolding coded
+coded-both [] ss a b = b
+coded-both (r ∷ rs) ss a b = rw (and-left (ltb 0 (r .code)) (coded rs) a) (coded-both rs ss (and-right (ltb 0 (r .code)) (coded rs) a) b)
+
 pub quiet : (rs : List Refusal) (x : ℕ) → coded rs ≡ true → answerOf rs x .code ≡ 0 → AllClear rs
 unfolding answerOf coded
 quiet [] x k e = none
@@ -133,7 +155,7 @@ unfoldable pub apart : List Refusal → Bool
 apart [] = true
 apart (r ∷ rs) = not (listed (r .code) rs) && apart rs
 
-told : (rs : List Refusal) (x : ℕ) {c : ℕ} → answerOf rs x .code ≡ c → (c ≡ 0 → ⊥) → listed c rs ≡ true
+pub told : (rs : List Refusal) (x : ℕ) {c : ℕ} → answerOf rs x .code ≡ c → (c ≡ 0 → ⊥) → listed c rs ≡ true
 unfolding answerOf listed
 told [] x e n = absurd (n (sym e))
 told (r ∷ rs) x {c} e n = go (ltb (placeOf r) (r .places)) (eqb (r .code) c) refl e (told rs x {c = c})

@@ -1,28 +1,28 @@
 -- Two arcs that are one rule: what that means, and where code 18 stands. Assumes nothing.
-use mathlib.Core.Path.{_≡_, refl, sym, ap, _∙_}
-use mathlib.Core.List.{List, []}
+use mathlib.Core.Path.{_≡_, refl, sym, ap, _∙_, subst}
+use mathlib.Core.List.{List, [], _∷_, _++_}
 use mathlib.Core.Bool.{Bool, true, false, _&&_}
 use Prim.Native.Nat.{ℕ, _<_}
 use native.Mathlib.Omega.{arith}
-use borrow.Author.Tests.{lt-ltb, le-ltb, ltb-true, ltb-false, eqb-true}
+use borrow.Author.Tests.{lt-ltb, le-ltb, ltb-true, ltb-false, eqb-true, eqb-false}
 use lib.IntN.{pos, _-ℤ_}
-use lib.ListN.{take, drop}
 use lib.Dec.{ltb, eqb, leb}
 use Rattle.numbers.specs.Divisor.{gcd}
 use Rattle.numbers.specs.Remainder.{remainder}
 use Rattle.numbers.specs.Row.{at}
 use Rattle.numbers.proofs.Congruence.{cong-refl, cong-sub}
 use Rattle.numbers.proofs.Remainders.{same-remainder, cong-of-remainders}
+use Rattle.network.specs.declared.Answer.{Answer}
 use Rattle.network.specs.Network.{Network, arcs, period, tail, head, lower}
 use Rattle.network.specs.PublicRule.{arcPeriod, slackBy, slack, met, widthOf, offsetOf}
 use Rattle.network.specs.First.{First, first}
-use Rattle.network.specs.Refusals.{answer}
-use Rattle.network.specs.Table.{repeats, repeated, refusalsWith, refusalOf, WellFormed}
-use Rattle.network.specs.Trial.{Sound, named}
+use Rattle.network.specs.Refusals.{Refusal, answer, each, named, linesBefore, answerOf}
+use Rattle.network.specs.Table.{repeats, repeated, refusalsWith, refusalOf, WellFormed, FirstPair, OnlyRepeats}
+use Rattle.network.specs.Trial.{Sound}
 use Rattle.network.specs.Pairs.{Twin}
 use Rattle.network.proofs.Scans.{first-is, true-false}
-use Rattle.network.proofs.Refusing.{AllClear, and-left, and-right, clear, goes-on, refused}
-use Rattle.network.proofs.Sound.{all-clear, arc-period}
+use Rattle.network.proofs.Refusing.{coded, quiet, and-left, and-right, clear, goes-on, stops, refused, listed, apart, told, said}
+use Rattle.network.proofs.Sound.{table-coded, all-clear, arc-period}
 use Rattle.network.proofs.Width.{met-width}
 
 -- ---- what it means
@@ -82,13 +82,6 @@ other-head N a b n = no-repeat N a b (λ w. n (w .heads))
 
 -- ---- where 18 stands: at the second arc of the first pair
 
-pub record FirstPair (N : Network) (b : ℕ) : Type 0 where
-  pub arc : b < arcs N
-  pub partner : ℕ
-  pub earlier : partner < b
-  pub again : repeats N partner b ≡ true
-  pub none-before : (c d : ℕ) → c < d → d < b → repeats N c d ≡ false
-
 not-repeated : (N : Network) (b : ℕ) → repeated N b ≡ false → (a : ℕ) → a < b → repeats N a b ≡ false
 unfolding repeated
 not-repeated N b e a h =
@@ -101,6 +94,27 @@ first-pair {N} {b} f h =
     let t : ℕ → Bool = λ a. repeats N a b in
     let l : first t b < b = ltb-true (first t b) b (f .found h) in
     record { arc = h; partner = first t b; earlier = l; again = first-is t b .found l; none-before = λ c d k m. not-repeated N d (f .before d m) c k }
+
+-- code 18 off the network's table and a call's own lines, none of which has that code
+pub pair-said : {N : Network} {r : Answer} (further : ℕ) (own : List Refusal) (x : ℕ) → listed 18 own ≡ false
+    → r ≡ answerOf (refusalsWith N further ++ own) x → r .code ≡ 18 → FirstPair N (r .place)
+unfolding apart listed named refusalsWith
+pair-said {N} {r} further own x l q e = go (eqb (answerOf rs 0 .code) 0) refl
+  where
+    rs : List Refusal
+    rs = refusalsWith N further
+
+    code : answerOf (rs ++ own) x .code ≡ 18
+    code = sym (ap (λ (a : Answer). a .code) q) ∙ e
+
+    go : (b : Bool) → eqb (answerOf rs 0 .code) 0 ≡ b → FirstPair N (r .place)
+    go true z =
+        let c = quiet rs 0 (table-coded N further) (eqb-true _ 0 z) in
+        absurd (true-false (told own x (sym (ap (λ (a : Answer). a .code) (goes-on own x c)) ∙ code) (λ k. omega arith)) l)
+    go false z =
+        let s = stops rs own x (eqb-false _ 0 z) in
+        let f = said rs 0 refl (sym (ap (λ (a : Answer). a .code) s) ∙ code) (λ k. omega arith) in
+        subst (FirstPair N) (sym (ap (λ (a : Answer). a .place) (q ∙ s))) (first-pair (f .found) (f .within))
 
 -- a well-formed network has no such pair
 pub distinct : {N : Network} → WellFormed N → (a b : ℕ) → a < b → b < arcs N → repeats N a b ≡ false
@@ -137,6 +151,7 @@ pair-is {N} {b} p = record {
   found = λ h. sym (twin-is (twin-found (p .earlier) (p .again))) ∙ lt-ltb (p .partner) b (p .earlier);
 }
 
-pub pair-refused : {N : Network} {b : ℕ} (further : ℕ) → AllClear (take 8 (refusalsWith N further)) → FirstPair N b → refusalOf N further ≡ answer 18 b 0
-unfolding refusalsWith
-pair-refused {N} further c p = goes-on (drop 8 (refusalsWith N further)) 0 c ∙ refused [] 0 (pair-is p) (p .arc)
+pub pair-refused : {N : Network} {b : ℕ} (further : ℕ) → OnlyRepeats N further → FirstPair N b → refusalOf N further ≡ answer 18 b 0
+unfolding refusalsWith linesBefore coded
+pair-refused {N} further c p =
+    goes-on (each 18 (arcs N) (repeated N) ∷ []) 0 (quiet (linesBefore 18 (refusalsWith N further)) 0 refl (c .none)) ∙ refused [] 0 (pair-is p) (p .arc)

@@ -1,5 +1,6 @@
 -- What a well-formed network has, and what codes 1 to 8 alone leave. Assumes nothing.
 use mathlib.Core.Path.{_≡_, refl, sym, ap, _∙_, subst}
+use mathlib.Core.List.{List, _++_}
 use mathlib.Core.Bool.{Bool, true, false, _||_}
 use Prim.Native.Nat.{ℕ, _≤_, _<_}
 use native.Mathlib.Omega.{arith}
@@ -13,10 +14,11 @@ use Rattle.numbers.proofs.Divisors.{gcd-pos, gcd-le}
 use Rattle.network.specs.declared.Answer.{Answer}
 use Rattle.network.specs.Network.{Network, events, arcs, period, tail, head, lower, upper, weight}
 use Rattle.network.specs.PublicRule.{arcPeriod}
-use Rattle.network.specs.Table.{outside, differ, uneven, strays, outsideℤ, refusals, refusalsWith, refusalOf, WellFormed}
-use Rattle.network.specs.Trial.{Even, Ends, Inside, Sound, named}
+use Rattle.network.specs.Refusals.{Refusal, once, named, answerOf}
+use Rattle.network.specs.Table.{outside, differ, uneven, strays, outsideℤ, refusals, refusalsWith, line, refusalOf, WellFormed}
+use Rattle.network.specs.Trial.{Even, Ends, Inside, Sound}
 use Rattle.network.proofs.Scans.{true-false}
-use Rattle.network.proofs.Refusing.{AllClear, front, coded, clear-all, quiet, clear}
+use Rattle.network.proofs.Refusing.{AllClear, front, back, coded, coded-both, clear-all, quiet, clear}
 
 -- ---- what each line leaves where it does not apply
 
@@ -85,10 +87,30 @@ ordered low high e = leℤ low high (ltZ-false high low e)
 
 -- ---- the whole
 
+-- no line has code 0, and two of them as they stand
+pub table-coded : (N : Network) (further : ℕ) → coded (refusalsWith N further) ≡ true
+unfolding coded refusalsWith
+table-coded N further = refl
+
+pub line-1 : (N : Network) (further : ℕ) → line N further 1 ≡ once 1 (outside 1 64 (events N))
+unfolding named refusalsWith
+line-1 N further = refl
+
+pub line-3 : (N : Network) (further : ℕ)
+    → line N further 3 ≡ once 3 (uneven (arcs N) (length (N .heads)) (length (N .lowers)) (length (N .uppers)) (length (N .weights)) further)
+unfolding named refusalsWith
+line-3 N further = refl
+
 -- no line applies anywhere
 pub clear-with : (N : Network) (further : ℕ) {r : Answer} → r ≡ refusalOf N further → r .code ≡ 0 → AllClear (refusalsWith N further)
-unfolding coded refusalsWith
-clear-with N further e z = quiet (refusalsWith N further) 0 refl (sym (ap (λ (a : Answer). a .code) e) ∙ z)
+clear-with N further e z = quiet (refusalsWith N further) 0 (table-coded N further) (sym (ap (λ (a : Answer). a .code) e) ∙ z)
+
+-- and none of a call's own lines behind it
+pub judged-clear : (N : Network) (further : ℕ) (own : List Refusal) (x : ℕ) → coded own ≡ true → answerOf (refusalsWith N further ++ own) x .code ≡ 0
+    → AllClear (refusalsWith N further) × AllClear own
+judged-clear N further own x h z =
+    let c = quiet (refusalsWith N further ++ own) x (coded-both (refusalsWith N further) own (table-coded N further) h) z in
+    (front (refusalsWith N further) own c, back (refusalsWith N further) own c)
 
 pub all-clear : (N : Network) → WellFormed N → AllClear (refusals N)
 all-clear N w = clear-with N (arcs N) refl (w .none)

@@ -14,9 +14,9 @@ use lib.Seq.{drop-cons}
 use Rattle.network.specs.Network.{Network, events, arcs}
 use Rattle.numbers.specs.Row.{at}
 use Rattle.network.specs.First.{First}
-use Rattle.network.specs.Refusals.{Refusal, answer, answerOf}
-use Rattle.network.specs.Table.{repeated, refusalsWith, refusalOf}
-use Rattle.network.specs.Trial.{never, named, line, order, placesOf, Even, Sound, Asks, AsksAt, Scanned}
+use Rattle.network.specs.Refusals.{Refusal, answer, answerOf, never, named}
+use Rattle.network.specs.Table.{repeated, refusalsWith, refusalOf, line}
+use Rattle.network.specs.Trial.{order, placesOf, Even, Sound, Asks, AsksAt, Scanned}
 use Rattle.network.proofs.Refusing.{Clear, clear-of, refused, passed, all-taken}
 use Rattle.network.proofs.Sound.{inside, even-of, sound-of}
 

@@ -18,6 +18,11 @@ use Rattle.network.specs.Trial.{Sound}
 use Rattle.network.proofs.Scans.{same-test}
 use Rattle.network.proofs.Sound.{arc-period}
 
+-- the width, from bounds that calls handed on
+pub width-from : (N : Network) (a : ℕ) {y : ℕ} {low high : ℤ} → low ≡ lower N a → high ≡ working N a → y ≡ natAbs (high -ℤ low) → y ≡ widthOf N a
+unfolding widthOf
+width-from N a l h e = e ∙ (λ j. natAbs (h j -ℤ l j))
+
 -- ---- of two bounds
 
 -- of a difference that is not below zero

@@ -4,6 +4,7 @@ use Prim.Native.Nat.{ℕ}
 use lib.IntN.{ℤ}
 use lib.ListN.{length}
 use denote.Ref.{RefT, now}
+use denote.Triple.Both.{Both}
 use Rattle.numbers.specs.Row.{at, atℤ}
 
 pub record Network : Type 0 where
@@ -20,6 +21,15 @@ net p t h l u w = record { periods = p; tails = t; heads = h; lowers = l; uppers
 
 abbrev pub netOf : RefT (List ℕ) → RefT (List ℕ) → RefT (List ℕ) → RefT (List ℤ) → RefT (List ℤ) → RefT (List ℕ) → Network
 netOf p t h l u w = net (now p) (now t) (now h) (now l) (now u) (now w)
+
+-- of six parameters of a call: as they are lent, and as the call leaves them
+abbrev pub netAt : {A B C D E F : Type 0} → Both (RefT (List ℕ)) A → Both (RefT (List ℕ)) B → Both (RefT (List ℕ)) C → Both (RefT (List ℤ)) D
+    → Both (RefT (List ℤ)) E → Both (RefT (List ℕ)) F → Network
+netAt p t h l u w = netOf (p .entry) (t .entry) (h .entry) (l .entry) (u .entry) (w .entry)
+
+abbrev pub netLeft : {A B C D E F : Type 0} → Both A (RefT (List ℕ)) → Both B (RefT (List ℕ)) → Both C (RefT (List ℕ)) → Both D (RefT (List ℤ))
+    → Both E (RefT (List ℤ)) → Both F (RefT (List ℕ)) → Network
+netLeft p t h l u w = netOf (p .exit) (t .exit) (h .exit) (l .exit) (u .exit) (w .exit)
 
 -- n, the number of events, and m, the number of arcs
 abbrev pub events : Network → ℕ

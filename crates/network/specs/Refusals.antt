@@ -1,6 +1,6 @@
 -- A table of refusals, and the answer that follows from it: code, order and place. Definitions alone.
 use mathlib.Core.List.{List, [], _∷_}
-use mathlib.Core.Bool.{Bool, cond}
+use mathlib.Core.Bool.{Bool, false, cond}
 use Prim.Native.Nat.{ℕ}
 use lib.Dec.{ltb, eqb}
 use Rattle.network.specs.declared.Answer.{Answer}
@@ -26,6 +26,19 @@ once c b = record { code = c; places = 1; applies = λ i. b }
 
 abbrev pub each : ℕ → ℕ → (ℕ → Bool) → Refusal
 each c n test = record { code = c; places = n; applies = test }
+
+-- the line of a code, or one that never applies
+abbrev pub never : Refusal
+never = record { code = 0; places = 0; applies = λ i. false }
+
+unfoldable pub named : ℕ → List Refusal → Refusal
+named c [] = never
+named c (r ∷ rs) = cond (eqb (r .code) c) r (named c rs)
+
+-- the lines before that of a code
+unfoldable pub linesBefore : ℕ → List Refusal → List Refusal
+linesBefore c [] = []
+linesBefore c (r ∷ rs) = cond (eqb (r .code) c) [] (r ∷ linesBefore c rs)
 
 -- the first place at which a line applies
 abbrev pub placeOf : Refusal → ℕ

@@ -6,6 +6,7 @@ use lib.ListN.{length, set}
 use lib.IntN.{ℤ}
 use lib.Dec.{leb, ltb}
 use denote.Ref.{RefT, now}
+use denote.Triple.Both.{Both}
 use Rattle.network.specs.Network.{Network, arcs, lower}
 use Rattle.numbers.specs.Row.{at, atℤ}
 use Rattle.network.specs.PublicRule.{tension, turnOf, met, working}
@@ -43,6 +44,13 @@ arcRows x z = record { tensions = x; turns = z }
 
 abbrev pub arcRowsOf : RefT (List ℤ) → RefT (List ℤ) → ArcRows
 arcRowsOf x z = arcRows (now x) (now z)
+
+-- of two parameters of a call: as they are lent, and as the call leaves them
+abbrev pub arcRowsAt : {A B : Type 0} → Both (RefT (List ℤ)) A → Both (RefT (List ℤ)) B → ArcRows
+arcRowsAt x z = arcRowsOf (x .entry) (z .entry)
+
+abbrev pub arcRowsLeft : {A B : Type 0} → Both A (RefT (List ℤ)) → Both B (RefT (List ℤ)) → ArcRows
+arcRowsLeft x z = arcRowsOf (x .exit) (z .exit)
 
 -- of tensions and turns of these lengths, one has too few entries for m arcs
 unfoldable pub short : ℕ → ℕ → ℕ → Bool

@@ -1,8 +1,8 @@
 -- The refusals of a network: the paper's table, codes 1 to 8 and 18, in its order. Definitions alone.
 use mathlib.Core.Path.{_≡_}
 use mathlib.Core.List.{List, [], _∷_}
-use mathlib.Core.Bool.{Bool, not, _||_, _&&_}
-use Prim.Native.Nat.{ℕ}
+use mathlib.Core.Bool.{Bool, true, false, not, _||_, _&&_}
+use Prim.Native.Nat.{ℕ, _<_}
 use lib.IntN.{ℤ, pos, negsuc}
 use lib.Signed.{ltZ}
 use lib.ListN.{length}
@@ -11,7 +11,7 @@ use Rattle.network.specs.declared.Answer.{Answer}
 use Rattle.network.specs.Network.{Network, events, arcs, period, tail, head, lower, upper, weight}
 use Rattle.network.specs.PublicRule.{widthOf, offsetOf}
 use Rattle.network.specs.First.{first}
-use Rattle.network.specs.Refusals.{Refusal, once, each, answerOf}
+use Rattle.network.specs.Refusals.{Refusal, once, each, named, linesBefore, answerOf}
 
 -- below the least or above the greatest, of unsigned and of signed numbers
 unfoldable pub outside : ℕ → ℕ → ℕ → Bool
@@ -68,6 +68,10 @@ refusalsWith N further =
 abbrev pub refusals : Network → List Refusal
 refusals N = refusalsWith N (arcs N)
 
+-- the line of a code
+abbrev pub line : Network → ℕ → ℕ → Refusal
+line N further code = named code (refusalsWith N further)
+
 -- the first refusal; code 0 where there is none
 abbrev pub refusalOf : Network → ℕ → Answer
 refusalOf N further = answerOf (refusalsWith N further) 0
@@ -75,3 +79,15 @@ refusalOf N further = answerOf (refusalsWith N further) 0
 -- a network is well-formed if none of the codes applies
 pub record WellFormed (N : Network) : Type 0 where
   pub none : refusalOf N (arcs N) .code ≡ 0
+
+-- b is the second arc of the first pair that repeats: no pair has a lower second arc
+pub record FirstPair (N : Network) (b : ℕ) : Type 0 where
+  pub arc : b < arcs N
+  pub partner : ℕ
+  pub earlier : partner < b
+  pub again : repeats N partner b ≡ true
+  pub none-before : (c d : ℕ) → c < d → d < b → repeats N c d ≡ false
+
+-- no line before that of 18 applies
+pub record OnlyRepeats (N : Network) (further : ℕ) : Type 0 where
+  pub none : answerOf (linesBefore 18 (refusalsWith N further)) 0 .code ≡ 0

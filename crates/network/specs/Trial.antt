@@ -1,7 +1,7 @@
 -- How the table is worked down: the order of the codes, and what the test of a code asks. For inner functions. Definitions alone.
 use mathlib.Core.Path.{_≡_}
 use mathlib.Core.List.{List, [], _∷_}
-use mathlib.Core.Bool.{false, cond}
+use mathlib.Core.Bool.{cond}
 use Prim.Native.Nat.{ℕ, _≤_, _<_}
 use lib.IntN.{natAbs}
 use lib.Signed.{_≤ℤ_}
@@ -9,19 +9,7 @@ use lib.ListN.{length}
 use lib.Dec.{eqb, leb}
 use Rattle.network.specs.Network.{Network, events, arcs, period, tail, head, lower, upper, weight}
 use Rattle.network.specs.First.{First}
-use Rattle.network.specs.Refusals.{Refusal}
-use Rattle.network.specs.Table.{refusalsWith}
-
--- the line of a code, or one that never applies
-abbrev pub never : Refusal
-never = record { code = 0; places = 0; applies = λ i. false }
-
-unfoldable pub named : ℕ → List Refusal → Refusal
-named c [] = never
-named c (r ∷ rs) = cond (eqb (r .code) c) r (named c rs)
-
-abbrev pub line : Network → ℕ → ℕ → Refusal
-line N further code = named code (refusalsWith N further)
+use Rattle.network.specs.Table.{line}
 
 -- the codes as they are tried
 abbrev pub order : List ℕ

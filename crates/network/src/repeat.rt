@@ -3,7 +3,7 @@ ghost use mathlib.Core.Path.{_≡_};
 ghost use Prim.Native.Nat.{_≤_, _<_};
 ghost use lib.IntN.{pos, natAbs, _+ℤ_, _-ℤ_};
 ghost use Rattle.numbers.specs.Remainder.{remainder};
-ghost use Rattle.network.specs.Network.{netOf, arcs};
+ghost use Rattle.network.specs.Network.{netOf, netAt, arcs};
 ghost use Rattle.network.specs.PublicRule.{workingBy};
 ghost use Rattle.network.specs.First.{First};
 ghost use Rattle.network.specs.Table.{repeated};
@@ -68,7 +68,7 @@ fn matched(
     from: usize,
 ) -> usize
     requires { ⌜ AsksMatched (netOf periods tail head lower upper weight) (now befores) arc from ⌝ }
-    ensures { λ r. ⌜ Twin (netOf (periods .entry) (tail .entry) (head .entry) (lower .entry) (upper .entry) (weight .entry)) arc r ⌝ }
+    ensures { λ r. ⌜ Twin (netAt periods tail head lower upper weight) arc r ⌝ }
 {
     let g = arc_period(periods, tail, head, lower, upper, weight, arc);
     let low = bound(lower, arc);
@@ -98,7 +98,7 @@ fn twin(
     arc: usize,
 ) -> usize
     requires { ⌜ AsksTwin (netOf periods tail head lower upper weight) (now lasts) (now befores) arc ⌝ }
-    ensures { λ r. ⌜ Twin (netOf (periods .entry) (tail .entry) (head .entry) (lower .entry) (upper .entry) (weight .entry)) arc r ⌝ }
+    ensures { λ r. ⌜ Twin (netAt periods tail head lower upper weight) arc r ⌝ }
 {
     let mut next = entry(lasts, entry(tail, arc));
     while 0 < next {
@@ -133,7 +133,7 @@ fn scan(
     befores: &mut [u32],
 ) -> usize
     requires { ⌜ Chained (netOf periods tail head lower upper weight) (now lasts) (now befores) 0 ⌝ }
-    ensures { λ r. ⌜ First (repeated (netOf (periods .entry) (tail .entry) (head .entry) (lower .entry) (upper .entry) (weight .entry))) (arcs (netOf (periods .entry) (tail .entry) (head .entry) (lower .entry) (upper .entry) (weight .entry))) r ⌝ }
+    ensures { λ r. ⌜ First (repeated (netAt periods tail head lower upper weight)) (arcs (netAt periods tail head lower upper weight)) r ⌝ }
 {
     let mut arc = 0;
     while arc < tail.len() {
@@ -169,7 +169,7 @@ pub fn first_repeat(
     weight: &[u32],
 ) -> usize
     requires { ⌜ Sound (netOf periods tail head lower upper weight) ⌝ }
-    ensures { λ r. ⌜ First (repeated (netOf (periods .entry) (tail .entry) (head .entry) (lower .entry) (upper .entry) (weight .entry))) (arcs (netOf (periods .entry) (tail .entry) (head .entry) (lower .entry) (upper .entry) (weight .entry))) r ⌝ }
+    ensures { λ r. ⌜ First (repeated (netAt periods tail head lower upper weight)) (arcs (netAt periods tail head lower upper weight)) r ⌝ }
 {
     let n = periods.len();
     let m = tail.len();

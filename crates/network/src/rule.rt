@@ -3,12 +3,12 @@ ghost use mathlib.Core.Path.{_≡_};
 ghost use Prim.Native.Nat.{_*_, _≤_, _<_};
 ghost use lib.IntN.{pos, natAbs, _+ℤ_, _-ℤ_};
 ghost use lib.ListN.{length};
-ghost use Rattle.network.specs.Network.{netOf};
+ghost use Rattle.network.specs.Network.{netOf, netAt};
 ghost use Rattle.numbers.specs.Row.{at, atℤ};
 ghost use Rattle.network.specs.PublicRule.{arcPeriod, slackBy, turnBy, workingBy, slack as slackOf, tension as tensionOf, met as metOf, costOf};
 ghost use Rattle.network.specs.First.{First};
 ghost use Rattle.network.specs.Table.{outsideℤ};
-ghost use Rattle.network.specs.Rows.{late, other, astray, unmet, written, arcRowsOf, short as shortOf};
+ghost use Rattle.network.specs.Rows.{late, other, astray, unmet, written, arcRowsOf, arcRowsAt, arcRowsLeft, short as shortOf};
 ghost use Rattle.network.specs.Trial.{AsksPeriod};
 ghost use Rattle.network.specs.Inner.{Span, Turning, Listed, Timed, TimedArc, TimedEnd, Room, Noted};
 
@@ -46,7 +46,7 @@ pub fn arc_period(
     arc: usize,
 ) -> u32
     requires { ⌜ AsksPeriod (netOf periods tail head lower upper weight) arc ⌝ }
-    ensures { λ r. ⌜ r ≡ arcPeriod (netOf (periods .entry) (tail .entry) (head .entry) (lower .entry) (upper .entry) (weight .entry)) arc ⌝ }
+    ensures { λ r. ⌜ r ≡ arcPeriod (netAt periods tail head lower upper weight) arc ⌝ }
 {
     let from = entry(tail, arc);
     let to = entry(head, arc);
@@ -107,7 +107,7 @@ fn slack(
     arc: usize,
 ) -> u32
     requires { ⌜ TimedArc (netOf periods tail head lower upper weight) (now times) arc ⌝ }
-    ensures { λ r. ⌜ r ≡ slackOf (netOf (periods .entry) (tail .entry) (head .entry) (lower .entry) (upper .entry) (weight .entry)) (now (times .entry)) arc ⌝ }
+    ensures { λ r. ⌜ r ≡ slackOf (netAt periods tail head lower upper weight) (now (times .entry)) arc ⌝ }
 {
     let g = arc_period(periods, tail, head, lower, upper, weight, arc);
     let from = time_at(tail, times, arc);
@@ -155,7 +155,7 @@ fn tension(
     arc: usize,
 ) -> i32
     requires { ⌜ TimedArc (netOf periods tail head lower upper weight) (now times) arc ⌝ }
-    ensures { λ r. ⌜ r ≡ tensionOf (netOf (periods .entry) (tail .entry) (head .entry) (lower .entry) (upper .entry) (weight .entry)) (now (times .entry)) arc ⌝ }
+    ensures { λ r. ⌜ r ≡ tensionOf (netAt periods tail head lower upper weight) (now (times .entry)) arc ⌝ }
 {
     let s = slack(periods, tail, head, lower, upper, weight, times, arc);
     raised(bound(lower, arc), s)
@@ -173,7 +173,7 @@ fn met(
     arc: usize,
 ) -> bool
     requires { ⌜ TimedArc (netOf periods tail head lower upper weight) (now times) arc ⌝ }
-    ensures { λ r. ⌜ r ≡ metOf (netOf (periods .entry) (tail .entry) (head .entry) (lower .entry) (upper .entry) (weight .entry)) (now (times .entry)) arc ⌝ }
+    ensures { λ r. ⌜ r ≡ metOf (netAt periods tail head lower upper weight) (now (times .entry)) arc ⌝ }
 {
     tension(periods, tail, head, lower, upper, weight, times, arc) <= bound(upper, arc)
 }
@@ -218,7 +218,7 @@ pub fn first_astray(
     tensions: &[i32],
 ) -> usize
     requires { ⌜ Listed (netOf periods tail head lower upper weight) (now tensions) ⌝ }
-    ensures { λ r. ⌜ First (astray (netOf (periods .entry) (tail .entry) (head .entry) (lower .entry) (upper .entry) (weight .entry)) (now (tensions .entry))) (length (now (tail .entry))) r ⌝ }
+    ensures { λ r. ⌜ First (astray (netAt periods tail head lower upper weight) (now (tensions .entry))) (length (now (tail .entry))) r ⌝ }
 {
     let mut arc = 0;
     while arc < tail.len() {
@@ -244,7 +244,7 @@ pub fn first_unmet(
     times: &[u32],
 ) -> usize
     requires { ⌜ Timed (netOf periods tail head lower upper weight) (now times) ⌝ }
-    ensures { λ r. ⌜ First (unmet (netOf (periods .entry) (tail .entry) (head .entry) (lower .entry) (upper .entry) (weight .entry)) (now (times .entry))) (length (now (tail .entry))) r ⌝ }
+    ensures { λ r. ⌜ First (unmet (netAt periods tail head lower upper weight) (now (times .entry))) (length (now (tail .entry))) r ⌝ }
 {
     let mut arc = 0;
     let place = loop {
@@ -270,7 +270,7 @@ pub fn cost(
     times: &[u32],
 ) -> u64
     requires { ⌜ Timed (netOf periods tail head lower upper weight) (now times) ⌝ }
-    ensures { λ r. ⌜ r ≡ costOf (netOf (periods .entry) (tail .entry) (head .entry) (lower .entry) (upper .entry) (weight .entry)) (now (times .entry)) ⌝ }
+    ensures { λ r. ⌜ r ≡ costOf (netAt periods tail head lower upper weight) (now (times .entry)) ⌝ }
 {
     let mut sum: u64 = 0;
     let mut arc = 0;
@@ -302,7 +302,7 @@ pub fn note_arcs(
     turns: &mut [i32],
 ) -> u64
     requires { ⌜ Room (netOf periods tail head lower upper weight) (now times) (arcRowsOf tensions turns) ⌝ }
-    ensures { λ r. ⌜ Noted (netOf (periods .entry) (tail .entry) (head .entry) (lower .entry) (upper .entry) (weight .entry)) (now (times .entry)) (arcRowsOf (tensions .entry) (turns .entry)) (arcRowsOf (tensions .exit) (turns .exit)) r ⌝ }
+    ensures { λ r. ⌜ Noted (netAt periods tail head lower upper weight) (now (times .entry)) (arcRowsAt tensions turns) (arcRowsLeft tensions turns) r ⌝ }
 {
     let mut sum: u64 = 0;
     let mut arc = 0;

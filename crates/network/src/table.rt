@@ -1,8 +1,8 @@
 // The network's first refusal: one scan for all lines of the table.
 ghost use mathlib.Core.Path.{_≡_};
-ghost use Rattle.network.specs.Network.{netOf};
-ghost use Rattle.network.specs.Table.{outside as outsideOf, uneven as unevenOf, strays as straysOf, refusalOf};
-ghost use Rattle.network.specs.Trial.{line, placesOf, AsksAt, AsksScan, Scanned};
+ghost use Rattle.network.specs.Network.{netOf, netAt};
+ghost use Rattle.network.specs.Table.{outside as outsideOf, uneven as unevenOf, strays as straysOf, refusalOf, line};
+ghost use Rattle.network.specs.Trial.{placesOf, AsksAt, AsksScan, Scanned};
 use crate::Answer;
 use crate::repeat::first_repeat;
 use crate::rule::bound;
@@ -87,7 +87,7 @@ fn applies(
     i: usize,
 ) -> bool
     requires { ⌜ AsksAt (netOf periods tail head lower upper weight) further code i ⌝ }
-    ensures { λ r. ⌜ r ≡ line (netOf (periods .entry) (tail .entry) (head .entry) (lower .entry) (upper .entry) (weight .entry)) further code .applies i ⌝ }
+    ensures { λ r. ⌜ r ≡ line (netAt periods tail head lower upper weight) further code .applies i ⌝ }
 {
     match code {
         1 => outside(1, 64, periods.len()),
@@ -122,7 +122,7 @@ fn first_place(
     count: usize,
 ) -> usize
     requires { ⌜ AsksScan (netOf periods tail head lower upper weight) further code count ⌝ }
-    ensures { λ r. ⌜ Scanned (netOf (periods .entry) (tail .entry) (head .entry) (lower .entry) (upper .entry) (weight .entry)) further code r ⌝ }
+    ensures { λ r. ⌜ Scanned (netAt periods tail head lower upper weight) further code r ⌝ }
 {
     if code == 18 {
         return first_repeat(periods, tail, head, lower, upper, weight);
@@ -147,7 +147,7 @@ pub fn refusal(
     weight: &[u32],
     further: usize,
 ) -> Answer
-    ensures { λ r. ⌜ r ≡ refusalOf (netOf (periods .entry) (tail .entry) (head .entry) (lower .entry) (upper .entry) (weight .entry)) further ⌝ }
+    ensures { λ r. ⌜ r ≡ refusalOf (netAt periods tail head lower upper weight) further ⌝ }
 {
     let order = ORDER;
     let mut k = 0;

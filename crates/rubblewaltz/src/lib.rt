@@ -1,6 +1,6 @@
 // The public calls, exported to C: each passes its rows on, and carries the contract of the call behind it.
-ghost use Rattle.network.specs.Network.{netOf};
-ghost use Rattle.network.specs.Rows.{arcRowsOf};
+ghost use Rattle.network.specs.Network.{netAt, netLeft};
+ghost use Rattle.network.specs.Rows.{arcRowsAt, arcRowsLeft};
 ghost use Rattle.timetable.specs.Check.{Checked};
 ghost use Rattle.timetable.specs.Measure.{Measured};
 ghost use Rattle.timetable.specs.PrintText.{Printed};
@@ -20,7 +20,7 @@ pub extern "C" fn rubblewaltz_check(
     weight: &[u32],
     times: &[u32],
 ) -> Answer
-    ensures { λ r. ⌜ Checked (netOf (periods .entry) (tail .entry) (head .entry) (lower .entry) (upper .entry) (weight .entry)) (now (times .entry)) r ⌝ }
+    ensures { λ r. ⌜ Checked (netAt periods tail head lower upper weight) (now (times .entry)) r ⌝ }
 {
     timetable::check::check(periods, tail, head, lower, upper, weight, times)
 }
@@ -37,7 +37,7 @@ pub extern "C" fn rubblewaltz_measure(
     tensions: &mut [i32],
     turns: &mut [i32],
 ) -> Answer
-    ensures { λ r. ⌜ Measured (netOf (periods .entry) (tail .entry) (head .entry) (lower .entry) (upper .entry) (weight .entry)) (now (times .entry)) (arcRowsOf (tensions .entry) (turns .entry)) (arcRowsOf (tensions .exit) (turns .exit)) r ⌝ }
+    ensures { λ r. ⌜ Measured (netAt periods tail head lower upper weight) (now (times .entry)) (arcRowsAt tensions turns) (arcRowsLeft tensions turns) r ⌝ }
 {
     timetable::measure::measure(
         periods,
@@ -64,7 +64,7 @@ pub extern "C" fn rubblewaltz_solve(
     tensions: &mut [i32],
     turns: &mut [i32],
 ) -> Answer
-    ensures { λ r. ⌜ Solved (netOf (periods .entry) (tail .entry) (head .entry) (lower .entry) (upper .entry) (weight .entry)) (now (times .entry)) (arcRowsOf (tensions .entry) (turns .entry)) (now (times .exit)) (arcRowsOf (tensions .exit) (turns .exit)) r ⌝ }
+    ensures { λ r. ⌜ Solved (netAt periods tail head lower upper weight) (now (times .entry)) (arcRowsAt tensions turns) (now (times .exit)) (arcRowsLeft tensions turns) r ⌝ }
 {
     timetable::solve::solve(
         periods,
@@ -90,7 +90,7 @@ pub extern "C" fn rubblewaltz_rebuild(
     tensions: &[i32],
     times: &mut [u32],
 ) -> Answer
-    ensures { λ r. ⌜ Rebuilt (netOf (periods .entry) (tail .entry) (head .entry) (lower .entry) (upper .entry) (weight .entry)) (now (tensions .entry)) (now (times .entry)) (now (times .exit)) r ⌝ }
+    ensures { λ r. ⌜ Rebuilt (netAt periods tail head lower upper weight) (now (tensions .entry)) (now (times .entry)) (now (times .exit)) r ⌝ }
 {
     timetable::rebuild::rebuild(periods, tail, head, lower, upper, weight, tensions, times)
 }
@@ -106,7 +106,7 @@ pub extern "C" fn rubblewaltz_read(
     upper: &mut [i32],
     weight: &mut [u32],
 ) -> Filled
-    ensures { λ r. ⌜ Read (now (events .entry)) (now (arcs .entry)) (netOf (periods .entry) (tail .entry) (head .entry) (lower .entry) (upper .entry) (weight .entry)) (netOf (periods .exit) (tail .exit) (head .exit) (lower .exit) (upper .exit) (weight .exit)) r ⌝ }
+    ensures { λ r. ⌜ Read (now (events .entry)) (now (arcs .entry)) (netAt periods tail head lower upper weight) (netLeft periods tail head lower upper weight) r ⌝ }
 {
     timetable::read_text::read_text(events, arcs, periods, tail, head, lower, upper, weight)
 }
@@ -122,7 +122,7 @@ pub extern "C" fn rubblewaltz_print(
     events: &mut [u8],
     arcs: &mut [u8],
 ) -> Filled
-    ensures { λ r. ⌜ Printed (netOf (periods .entry) (tail .entry) (head .entry) (lower .entry) (upper .entry) (weight .entry)) (now (events .entry)) (now (arcs .entry)) (now (events .exit)) (now (arcs .exit)) r ⌝ }
+    ensures { λ r. ⌜ Printed (netAt periods tail head lower upper weight) (now (events .entry)) (now (arcs .entry)) (now (events .exit)) (now (arcs .exit)) r ⌝ }
 {
     timetable::print_text::print_text(periods, tail, head, lower, upper, weight, events, arcs)
 }

@@ -5,4 +5,5 @@ pub mod Reducing
 pub mod Threads
 pub mod Marking
 pub mod Steps
+pub mod Model
 pub mod Models

@@ -18,7 +18,7 @@ use Rattle.search.specs.Looked.Looked.{found, nothing}
 use Rattle.search.specs.Reduced.{Reduced, eventsIn, periodIn, lastIn, metIn, BarsLent}
 use Rattle.search.specs.Marks.{mark, Joined}
 use Rattle.search.specs.Steps.{Agree, AgreeOn, Partial, BlockedOn, Ready, Placed, NoneIn, Turn}
-use Rattle.search.specs.Model.{zeros, reducedFor, hinders, fits, tries, find, smallestOf}
+use Rattle.search.proofs.Model.{zeros, reducedFor, hinders, fits, tries, find, smallestOf}
 use Rattle.search.proofs.Agreeing.{agree-refl, agree-set}
 use Rattle.search.proofs.Steps.{met-local, put-here, fit-all, placed-all, turn-first, turn-last, step-hit, step-missed, start, sought}
 use Rattle.search.proofs.Reducing.{sized, serves, looked}

@@ -8,7 +8,7 @@ use native.Mathlib.Omega.{arith}
 use lib.IntN.{ℤ, pos, natAbs, _-ℤ_}
 use lib.ListN.{length}
 use lib.Dec.{leb}
-use borrow.Author.Tests.{lt-ltb, le-ltb, ltb-true, le-leb, lt-leb}
+use borrow.Author.Tests.{lt-ltb, le-ltb, le-leb, lt-leb}
 use Rattle.numbers.specs.Divisor.{gcd}
 use Rattle.numbers.specs.Remainder.{Cong}
 use Rattle.numbers.proofs.Divisors.{gcd-turned}
@@ -17,11 +17,12 @@ use Rattle.numbers.proofs.Congruence.{cong, parts, cong-refl, cong-sym, cong-tr
 use Rattle.numbers.proofs.Remainders.{below-same, remainder-below, remainder-cong}
 use Rattle.network.specs.Network.{Network, arcs, period, tail, head, lower}
 use Rattle.numbers.specs.Row.{at}
-use Rattle.network.specs.PublicRule.{arcPeriod, slackBy, slack, met, working, widthOf, allowed, Feasible}
+use Rattle.network.specs.PublicRule.{arcPeriod, slackBy, slack, met, working, widthOf, Feasible}
 use Rattle.network.specs.Trial.{Sound, ArcOf}
 use Rattle.network.proofs.Arcs.{period-of}
 use Rattle.network.proofs.Sound.{sound, arc-period}
-use Rattle.network.proofs.Width.{width-is, width-below, met-width}
+use Rattle.network.proofs.Times.{in-time, all-in-time}
+use Rattle.network.proofs.Width.{width-from, width-is, width-below, met-width}
 use Rattle.search.specs.Looked.{Looked, Sought, Serves}
 use Rattle.search.specs.Looked.Looked.{found, nothing}
 use Rattle.search.specs.Looked.Sought.{least-fits, none-fits}
@@ -120,12 +121,8 @@ module _ {N : Network} {a : ℕ} (s : Sound N) (h : a < arcs N) where
 -- ---- the numbers of an arc, as calls handed them on
 
 module _ {N : Network} {a : ℕ} (c : ArcOf N a) where
-  found-width : {y : ℕ} {low high : ℤ} → low ≡ lower N a → high ≡ working N a → y ≡ natAbs (high -ℤ low) → y ≡ widthOf N a
-  unfolding widthOf
-  found-width l h e = e ∙ (λ j. natAbs (h j -ℤ l j))
-
   pub width-fits : {g y : ℕ} {low high : ℤ} → g ≡ arcPeriod N a → low ≡ lower N a → high ≡ working N a → y ≡ natAbs (high -ℤ low) → y ≤ g - 1
-  width-fits q l h e = omega (arith, found-width l h e, width-below N a (c .sound) (c .arc))
+  width-fits q l h e = omega (arith, width-from N a l h e, width-below N a (c .sound) (c .arc))
 
   pub working-small : {high : ℤ} → high ≡ working N a → natAbs high ≤ 10800
   working-small h =
@@ -145,7 +142,7 @@ module _ {N : Network} {a : ℕ} (c : ArcOf N a) where
       → put bars a near last s ((g - 1) - y) g ≡ putArc N bars a
   unfolding putArc
   put-is bars n m q l h e d f =
-      let w = found-width l h e in
+      let w = width-from N a l h e in
       let b = f ∙ (λ i. slackBy (q i) (d i) 0 1) in
       λ j. put bars a (n j) (m j) (b j) ((q j - 1) - w j) (q j)
 
@@ -211,17 +208,15 @@ module _ {N : Network} {bars : List ℕ} (lent : BarsLent N bars) where
       (λ j. leb (b .run-is j) (past (b .gap-is j) (b .shift-is j) (at t (b .near-is j)) (at t (b .last-is j)))) ∙ met-bar has h t
 
   fitting : {t : List ℕ} → Feasible N t → Fitting R t
-  unfolding allowed
   fitting {t} p = record {
     long = p .timetable .long;
-    inside = λ v h. ltb-true (at t v) (period N v) (p .timetable .inside v h);
+    inside = λ v h. in-time (p .timetable) h;
     met = λ a h. met-same t a h ∙ p .each-met a h;
   }
 
   feasible : {t : List ℕ} → Fitting R t → Feasible N t
-  unfolding allowed
   feasible {t} p = record {
-    timetable = record { long = p .long; inside = λ v h. lt-ltb (at t v) (period N v) (p .inside v h) };
+    timetable = all-in-time (p .long) (p .inside);
     each-met = λ a h. sym (met-same t a h) ∙ p .met a h;
   }
 

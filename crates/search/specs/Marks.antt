@@ -125,6 +125,10 @@ pub record EventMarked (bars : List ℕ) (m c : ℕ) (t : List ℕ) (k : ℕ) (r
   pub marked : (x : ℕ) → x < length row → mark row x ≡ true → Ruled bars m t k B x
   pub clear : (x : ℕ) → x < length row → mark row x ≡ false → (a : ℕ) → a < c → a < m → lastIn bars a ≡ k → metAt bars t a x ≡ true
 
+-- of all arcs, for each of which the row of links has an entry
+abbrev pub AllMarked : List ℕ → List ℕ → List ℕ → ℕ → List Bool → List Bool → Type 0
+AllMarked bars nexts t k row B = EventMarked bars (length nexts) (length nexts) t k row B
+
 -- the loop, before arc c
 pub record EventTurn (bars : List ℕ) (m : ℕ) (t : List ℕ) (k : ℕ) (row row′ B : List Bool) (c : ℕ) : Type 0 where
   pub long : length row′ ≡ length row

@@ -8,6 +8,7 @@ use lib.IntN.{ℤ, pos, _-ℤ_}
 use lib.ListN.{length, set}
 use lib.Dec.{leb, ltb}
 use denote.Ref.{RefT, now}
+use denote.Triple.Both.{Both}
 use Rattle.numbers.specs.Divisor.{gcd}
 use Rattle.network.specs.Network.{Network, events, arcs, tail, head, lower}
 use Rattle.numbers.specs.Row.{at}
@@ -52,6 +53,10 @@ reduced p b m = record { periods = p; bars = b; arcs = m }
 -- of two lent rows, and of one that has an entry for each arc
 abbrev pub reducedOf : RefT (List ℕ) → RefT (List ℕ) → RefT (List ℕ) → Reduced
 reducedOf p b nexts = reduced (now p) (now b) (length (now nexts))
+
+-- of two parameters of a call, as they are lent, and m arcs
+abbrev pub reducedAt : {A B : Type 0} → Both (RefT (List ℕ)) A → Both (RefT (List ℕ)) B → ℕ → Reduced
+reducedAt p b m = reduced (now (p .entry)) (now (b .entry)) m
 
 abbrev pub eventsIn : Reduced → ℕ
 eventsIn R = length (R .periods)

@@ -1,5 +1,5 @@
 // The smallest timetable that fits a network in unsigned numbers, or that there is none.
-ghost use Rattle.search.specs.Reduced.{reduced};
+ghost use Rattle.search.specs.Reduced.{reduced, reducedAt};
 ghost use Rattle.search.specs.Looked.{Sought, Seeks};
 ghost use Rattle.search.specs.Threads.{Lent};
 
@@ -21,7 +21,7 @@ fn look(
 ) -> bool
     requires { ⌜ Seeks (reduced (now periods) (now bars) m) (now times) ⌝ }
     requires { ⌜ Lent (reduced (now periods) (now bars) m) (now firsts) (now nexts) (now blame) ⌝ }
-    ensures { λ r. ⌜ Sought (reduced (now (periods .entry)) (now (bars .entry)) m) (now (times .exit)) r ⌝ }
+    ensures { λ r. ⌜ Sought (reducedAt periods bars m) (now (times .exit)) r ⌝ }
 {
     thread::thread(bars, firsts, nexts);
     depth::place(periods, bars, &firsts[..], &nexts[..], times, blame, 0)
@@ -30,7 +30,7 @@ fn look(
 // The smallest that fits the m arcs, written into the row; or false where there is none.
 pub fn least(periods: &[u32], bars: &[u32], m: usize, times: &mut [u32]) -> bool
     requires { ⌜ Seeks (reduced (now periods) (now bars) m) (now times) ⌝ }
-    ensures { λ r. ⌜ Sought (reduced (now (periods .entry)) (now (bars .entry)) m) (now (times .exit)) r ⌝ }
+    ensures { λ r. ⌜ Sought (reducedAt periods bars m) (now (times .exit)) r ⌝ }
 {
     let n = periods.len();
     let mut firsts = [2272u32; 64];

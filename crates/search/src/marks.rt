@@ -2,7 +2,7 @@
 ghost use mathlib.Core.Path.{_≡_};
 ghost use Prim.Native.Nat.{_+_, _≤_, min};
 ghost use lib.ListN.{length};
-ghost use Rattle.search.specs.Marks.{RunMarked, RunsAsk, RunsMarked, ArcAsks, ArcMarked, EventAsks, EventMarked, FirstFree, SomeFree, Walk};
+ghost use Rattle.search.specs.Marks.{RunMarked, RunsAsk, RunsMarked, ArcAsks, ArcMarked, EventAsks, AllMarked, FirstFree, SomeFree, Walk};
 use crate::blame::clear;
 use crate::blame::either;
 use network::rule::entry;
@@ -67,7 +67,7 @@ pub fn mark_event(
     blame: &mut [bool],
 )
     requires { ⌜ EventAsks (now bars) (now firsts) (now nexts) (now times) k (now row) (now blame) ⌝ }
-    ensures { λ _. ⌜ EventMarked (now (bars .entry)) (length (now (nexts .entry))) (length (now (nexts .entry))) (now (times .entry)) k (now (row .exit)) (now (blame .exit)) ⌝ }
+    ensures { λ _. ⌜ AllMarked (now (bars .entry)) (now (nexts .entry)) (now (times .entry)) k (now (row .exit)) (now (blame .exit)) ⌝ }
 {
     clear(blame);
     let mut arc = entry(firsts, k);

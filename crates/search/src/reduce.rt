@@ -2,7 +2,7 @@
 ghost use mathlib.Core.Path.{_≡_};
 ghost use Prim.Native.Nat.{_≤_};
 ghost use lib.IntN.{pos, natAbs, _-ℤ_};
-ghost use Rattle.network.specs.Network.{netOf, arcs};
+ghost use Rattle.network.specs.Network.{netOf, netAt, arcs};
 ghost use Rattle.search.specs.Reduced.{put as putOf, putArc, putArcs, BarsLent, BarLent, PutAsks};
 use network::rule::arc_period;
 use network::rule::bound;
@@ -43,7 +43,7 @@ fn reduce_arc(
     arc: usize,
 )
     requires { ⌜ BarLent (netOf periods tail head lower upper weight) (now bars) arc ⌝ }
-    ensures { λ _. ⌜ now (bars .exit) ≡ putArc (netOf (periods .entry) (tail .entry) (head .entry) (lower .entry) (upper .entry) (weight .entry)) (now (bars .entry)) arc ⌝ }
+    ensures { λ _. ⌜ now (bars .exit) ≡ putArc (netAt periods tail head lower upper weight) (now (bars .entry)) arc ⌝ }
 {
     let g = arc_period(periods, tail, head, lower, upper, weight, arc);
     let low = bound(lower, arc);
@@ -71,7 +71,7 @@ pub fn reduce(
     bars: &mut [u32],
 )
     requires { ⌜ BarsLent (netOf periods tail head lower upper weight) (now bars) ⌝ }
-    ensures { λ _. ⌜ now (bars .exit) ≡ putArcs (netOf (periods .entry) (tail .entry) (head .entry) (lower .entry) (upper .entry) (weight .entry)) (now (bars .entry)) (arcs (netOf (periods .entry) (tail .entry) (head .entry) (lower .entry) (upper .entry) (weight .entry))) ⌝ }
+    ensures { λ _. ⌜ now (bars .exit) ≡ putArcs (netAt periods tail head lower upper weight) (now (bars .entry)) (arcs (netAt periods tail head lower upper weight)) ⌝ }
 {
     let mut arc = 0;
     while arc < tail.len() {

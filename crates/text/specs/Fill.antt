@@ -4,6 +4,8 @@ use mathlib.Core.List.{List, [], _++_, map}
 use Prim.Native.Nat.{ℕ, _≤_}
 use lib.IntN.{ℤ}
 use lib.ListN.{length, drop}
+use denote.Ref.{RefT, now}
+use denote.Triple.Both.{Both}
 use Rattle.text.specs.Text.{Layout, Arc, arcLayout, Told, rows, wrongHeader, badRecord, told}
 
 abbrev pub rowsOf : {R : Type 0} → Told R → List R
@@ -54,3 +56,10 @@ pub record ArcsFilled (rs : List Arc) (t h : List ℕ) (l u : List ℤ) (w : Lis
   pub lowers : l′ ≡ onto (lowersOf rs) l
   pub uppers : u′ ≡ onto (uppersOf rs) u
   pub weights : w′ ≡ onto (weightsOf rs) w
+
+-- of the parameters of the call
+abbrev pub ArcsFilledBy : List Arc → Both (RefT (List ℕ)) (RefT (List ℕ)) → Both (RefT (List ℕ)) (RefT (List ℕ)) → Both (RefT (List ℤ)) (RefT (List ℤ))
+    → Both (RefT (List ℤ)) (RefT (List ℤ)) → Both (RefT (List ℕ)) (RefT (List ℕ)) → Type 0
+ArcsFilledBy rs t h l u w =
+    ArcsFilled rs (now (t .entry)) (now (h .entry)) (now (l .entry)) (now (u .entry)) (now (w .entry))
+    (now (t .exit)) (now (h .exit)) (now (l .exit)) (now (u .exit)) (now (w .exit))

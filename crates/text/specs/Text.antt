@@ -6,6 +6,8 @@ use Prim.Native.Nat.{ℕ, zero, suc}
 use lib.Dec.{ltb, eqb}
 use lib.IntN.{ℤ}
 use lib.ListN.{length}
+use denote.Ref.{RefT, now}
+use denote.Triple.Both.{Both}
 use Rattle.numbers.specs.Row.{at, atℤ}
 use Rattle.text.specs.Bytes.{bytes}
 use Rattle.text.specs.Number.{plain, signed, decimal, decimalℤ}
@@ -52,6 +54,11 @@ listed f (suc n) = listed f n ++ (f n ∷ [])
 
 unfoldable pub arcsOf : List ℕ → List ℕ → List ℤ → List ℤ → List ℕ → List Arc
 arcsOf t h l u w = listed (arcAt t h l u w) (length t)
+
+-- of five parameters of a call, as they are lent
+abbrev pub arcsAt : {A B C D E : Type 0} → Both (RefT (List ℕ)) A → Both (RefT (List ℕ)) B → Both (RefT (List ℤ)) C → Both (RefT (List ℤ)) D
+    → Both (RefT (List ℕ)) E → List Arc
+arcsAt t h l u w = arcsOf (now (t .entry)) (now (h .entry)) (now (l .entry)) (now (u .entry)) (now (w .entry))
 
 -- event k's period, and arc k, by their fields
 unfoldable pub eventOf : ℕ → List (List ℕ) → Option ℕ

@@ -2,7 +2,7 @@
 ghost use mathlib.Core.Path.{_≡_};
 ghost use lib.ListN.{length};
 ghost use Rattle.text.specs.Text.{told, eventLayout, arcLayout};
-ghost use Rattle.text.specs.Fill.{rowsOf, onto, Fillable, ArcsFillable, ArcsFilled};
+ghost use Rattle.text.specs.Fill.{rowsOf, onto, Fillable, ArcsFillable, ArcsFilledBy};
 use crate::ArcRecord;
 use crate::Event;
 use crate::Record;
@@ -41,7 +41,7 @@ pub fn fill_arcs(
     weight: &mut [u32],
 )
     requires { ⌜ ArcsFillable (now text) (now tail) (now head) (now lower) (now upper) (now weight) ⌝ }
-    ensures { λ _. ⌜ ArcsFilled (rowsOf (told arcLayout (now (text .entry)))) (now (tail .entry)) (now (head .entry)) (now (lower .entry)) (now (upper .entry)) (now (weight .entry)) (now (tail .exit)) (now (head .exit)) (now (lower .exit)) (now (upper .exit)) (now (weight .exit)) ⌝ }
+    ensures { λ _. ⌜ ArcsFilledBy (rowsOf (told arcLayout (now (text .entry)))) tail head lower upper weight ⌝ }
 {
     let mut at = after_header(text);
     let mut k = 0;

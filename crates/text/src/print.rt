@@ -4,7 +4,7 @@ ghost use Prim.Native.Nat.{_+_, _≤_};
 ghost use lib.IntN.{natAbs};
 ghost use lib.ListN.{length};
 ghost use Rattle.text.specs.Number.{decimal, decimalℤ};
-ghost use Rattle.text.specs.Text.{arc, arcsOf, eventLayout, arcLayout, printed};
+ghost use Rattle.text.specs.Text.{arc, arcsOf, arcsAt, eventLayout, arcLayout, printed};
 ghost use Rattle.text.specs.Put.{Put, commaAfter, breakAfter, recordLine, FiveRows};
 
 // How many digits a number has.
@@ -188,7 +188,7 @@ pub fn arcs_length(
     weight: &[u32],
 ) -> usize
     requires { ⌜ FiveRows (now tail) (now head) (now lower) (now upper) (now weight) ⌝ }
-    ensures { λ r. ⌜ r ≡ length (printed arcLayout (arcsOf (now (tail .entry)) (now (head .entry)) (now (lower .entry)) (now (upper .entry)) (now (weight .entry)))) ⌝ }
+    ensures { λ r. ⌜ r ≡ length (printed arcLayout (arcsAt tail head lower upper weight)) ⌝ }
 {
     let mut total: usize = 34;
     let mut k = 0;
@@ -208,8 +208,9 @@ pub fn put_arcs(
     upper: &[i32],
     weight: &[u32],
 ) -> usize
-    requires { ⌜ (FiveRows (now tail) (now head) (now lower) (now upper) (now weight)) × (length (printed arcLayout (arcsOf (now tail) (now head) (now lower) (now upper) (now weight))) ≤ length (now out)) ⌝ }
-    ensures { λ r. ⌜ Put (printed arcLayout (arcsOf (now (tail .entry)) (now (head .entry)) (now (lower .entry)) (now (upper .entry)) (now (weight .entry)))) 0 (now (out .entry)) (now (out .exit)) r ⌝ }
+    requires { ⌜ FiveRows (now tail) (now head) (now lower) (now upper) (now weight) ⌝ }
+    requires { ⌜ length (printed arcLayout (arcsOf (now tail) (now head) (now lower) (now upper) (now weight))) ≤ length (now out) ⌝ }
+    ensures { λ r. ⌜ Put (printed arcLayout (arcsAt tail head lower upper weight)) 0 (now (out .entry)) (now (out .exit)) r ⌝ }
 {
     let mut at = put_bytes(out, 0, b"arc,tail,head,lower,upper,weight\r\n");
     let mut k = 0;

@@ -18,12 +18,9 @@ use Rattle.text.proofs.Rows.{arcs-back}
 use Rattle.text.proofs.RoundTrip.{events-again, arcs-again, events-count, arcs-count}
 use Rattle.timetable.specs.ReadText.{crampedIn, readOf, periodsIn, arcsIn, Read}
 use Rattle.timetable.specs.PrintText.{eventsText, arcsText, printOf, Printed}
+use Rattle.timetable.specs.Demands.{cut, ReadsSame}
 use Rattle.timetable.proofs.PrintTexts.{outsideIn, unevenIn, print-0}
 use Rattle.timetable.proofs.ReadTexts.{Accepts, accepts-read, read-accepts}
-
--- the first n events and m arcs of six rows: what a call filled
-abbrev pub cut : ℕ → ℕ → Network → Network
-cut n m N = net (take n (N .periods)) (take m (N .tails)) (take m (N .heads)) (take m (N .lowers)) (take m (N .uppers)) (take m (N .weights))
 
 -- the network of periods and arcs
 abbrev of : List ℕ → List Arc → Network
@@ -125,18 +122,18 @@ module _ {E A E₂ A₂ : List ℕ} {N N₁ M M₁ : Network} {r q : Filled} (p 
       filled-code (readOf E₂ A₂ M) _ _ (b .answer)
       ∙ ap (λ (o : Answer). o .code) (accepts-read E₂ A₂ M (record { room = room; events = e ∙ ap rows (sym ps); arcs = a ∙ ap rows (sym rs) }))
 
-  told-same : (q ≡ r) × (cut (q .events) (q .arcs) M₁ ≡ cut (r .events) (r .arcs) N₁)
-  told-same = (
-    read-answer b code ∙ (λ i. filled 0 0 (length (ps i)) (length (rs i))) ∙ sym (read-answer p z),
-    read-cut b code ∙ (λ i. of (ps i) (rs i)) ∙ sym (read-cut p z),
-  )
+  told-same : ReadsSame N₁ r M₁ q
+  told-same = record {
+    answer-is = read-answer b code ∙ (λ i. filled 0 0 (length (ps i)) (length (rs i))) ∙ sym (read-answer p z);
+    rows-are = read-cut b code ∙ (λ i. of (ps i) (rs i)) ∙ sym (read-cut p z);
+  }
 
 -- Two texts are read; the rows, cut to what was filled, are printed; what was printed is read into rows with room.
 -- The second reading's answer, and the rows it filled, are those of the first.
 pub again : {E A : List ℕ} {N N₁ : Network} {r : Filled} → Read E A N N₁ r → r .code ≡ 0
     → {E₀ A₀ E₁ A₁ : List ℕ} {s : Filled} → Printed (cut (r .events) (r .arcs) N₁) E₀ A₀ E₁ A₁ s → s .code ≡ 0
     → {M M₁ : Network} {q : Filled} → Read (take (s .events) E₁) (take (s .arcs) A₁) M M₁ q → crampedIn M ≡ false
-    → (q ≡ r) × (cut (q .events) (q .arcs) M₁ ≡ cut (r .events) (r .arcs) N₁)
+    → ReadsSame N₁ r M₁ q
 again {E} {A} p z o y b room =
     let t = read-told p z in
     let w = print-events o y ∙ ap eventsText (read-cut p z) in

@@ -1,7 +1,6 @@
 -- Demand 3, over the contract of rebuild and the public rule. A sheet is a row of tensions, each within its arc's working bounds, for a well-formed
 -- network in which all events share one period. Assumes nothing.
 use mathlib.Core.Path.{_≡_, sym, ap, _∙_}
-use mathlib.Core.Logic.{_↔_}
 use mathlib.Core.List.{List}
 use Prim.Native.Nat.{ℕ, _+_, _≤_, _<_}
 use native.Mathlib.Omega.{arith}
@@ -10,35 +9,18 @@ use lib.ListN.{length}
 use lib.Seq.{ext-getD}
 use Rattle.numbers.specs.Row.{at, atℤ}
 use Rattle.network.specs.declared.Answer.{Answer}
-use Rattle.network.specs.Network.{Network, events, arcs, period}
-use Rattle.network.specs.PublicRule.{tension, costOf}
+use Rattle.network.specs.Network.{Network, events, arcs}
+use Rattle.network.specs.PublicRule.{tension}
 use Rattle.network.specs.Refusals.{answer}
-use Rattle.network.specs.Rows.{written}
 use Rattle.network.proofs.Arcs.{written-at}
-use Rattle.walks.specs.Walk.{Closed}
 use Rattle.walks.proofs.Walks.{fewer-consistent}
 use Rattle.walks.proofs.Theorems.{exactly}
-use Rattle.timetable.specs.Rebuild.{graph, Allowed, Stands, Sheet, Restored, Rebuilt}
+use Rattle.timetable.specs.Rebuild.{Allowed, Sheet, Restored, Rebuilt}
 use Rattle.timetable.specs.Rebuild.Restored.{impossible, restored}
 use Rattle.timetable.specs.Rebuild.Rebuilt.{refused, judged}
+use Rattle.timetable.specs.Demands.{Back, Demand-3}
 use Rattle.timetable.proofs.Sheets.{common, between, stands-allowed, stands-one}
 use Rattle.timetable.proofs.Rebuilds.{judged-sheet, sheet-judged, room-judged}
-
--- the timetable comes back, and its cost
-pub record Back (N : Network) (x : List ℤ) (times times′ : List ℕ) (r : Answer) : Type 0 where
-  pub table : List ℕ
-  pub stands : Stands N x table
-  pub times-are : times′ ≡ written (at table) (events N) times
-  pub answer-is : r ≡ answer 0 0 (costOf N table)
-
-pub record Demand-3 (N : Network) (x : List ℤ) (times times′ : List ℕ) (r : Answer) : Type 0 where
-  -- accepted exactly if around every closed walk the sum is a multiple of the period
-  pub accepted : (r .code ≡ 0) ↔ Closed (graph N) (atℤ x) (period N 0) (arcs N)
-  -- what comes back, and that it is the only such timetable
-  pub back : r .code ≡ 0 → Back N x times times′ r
-  pub only : (t u : List ℕ) → Stands N x t → Stands N x u → t ≡ u
-  -- otherwise the place is the first arc such that no times give it and those before it their tensions
-  pub first : (r .code ≡ 0 → ⊥) → (r .code ≡ 13) × (r .place < arcs N) × Allowed N x (r .place) × ¬ Allowed N x (r .place + 1)
 
 code-of : {r : Answer} {c p x : ℕ} → r ≡ answer c p x → r .code ≡ c
 code-of e = ap (λ (o : Answer). o .code) e

@@ -1,4 +1,4 @@
--- The ways out of the public calls, that each answer is the only one, what check accepts, that texts read back, and demands 1 to 3.
+-- The ways out of the public calls, that each answer is the only one, what check accepts, how small a cost is, that texts read back, and demands 1 to 3.
 pub mod Checks
 pub mod Measures
 pub mod PrintTexts
@@ -12,5 +12,6 @@ pub mod Demand2
 pub mod Demand3
 pub mod Again
 pub mod Accepts
+pub mod Costs
 pub mod Turned
 pub mod Repeated

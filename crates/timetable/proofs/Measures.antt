@@ -1,6 +1,6 @@
 -- The answers of measure, one law for each way out, and its rows with each. Assumes nothing.
 use mathlib.Core.Path.{_≡_, refl, sym, ap, _∙_}
-use mathlib.Core.List.{List, _++_}
+use mathlib.Core.List.{List}
 use mathlib.Core.Bool.{Bool, true, false, not, _||_}
 use Prim.Native.Nat.{ℕ, _≤_, _<_}
 use native.Mathlib.Omega.{arith}
@@ -10,14 +10,13 @@ use Rattle.network.specs.declared.Answer.{Answer}
 use Rattle.network.specs.Network.{Network, events, arcs}
 use Rattle.network.specs.PublicRule.{costOf}
 use Rattle.network.specs.First.{First}
-use Rattle.network.specs.Refusals.{answer}
-use Rattle.network.specs.Table.{differ, refusals, refusalsWith, refusalOf, WellFormed}
+use Rattle.network.specs.Refusals.{answer, named}
+use Rattle.network.specs.Table.{differ, refusals, refusalOf, WellFormed}
 use Rattle.network.specs.Rows.{late, ArcRows, shortFor, noted}
-use Rattle.network.specs.Trial.{named}
 use Rattle.network.specs.Inner.{Room}
-use Rattle.network.proofs.Refusing.{AllClear, coded, quiet, clear, front, after-kept, after-written, once-refused, once-clear, clear-of, stopped, refuses, succeeds}
+use Rattle.network.proofs.Refusing.{coded, clear, after-kept, after-written, once-refused, once-clear, clear-of, stopped, refuses, succeeds}
 use Rattle.network.proofs.Refusing.AllClear.{none, more}
-use Rattle.network.proofs.Sound.{neither, all-clear, well-formed}
+use Rattle.network.proofs.Sound.{neither, all-clear, well-formed, judged-clear}
 use Rattle.network.proofs.Times.{on-time}
 use Rattle.timetable.specs.Measure.{measureRefusals, measureOf, Measured}
 
@@ -51,13 +50,13 @@ module _ (N : Network) (t : List ℕ) (rows : ArcRows) (w : WellFormed N) where
 -- ---- code 0 says what was found: a timetable, and room
 
 pub measure-room : (N : Network) (t : List ℕ) (rows : ArcRows) → measureOf N t rows .code ≡ 0 → Room N t rows
-unfolding measureOf coded refusalsWith measureRefusals named
+unfolding measureOf coded measureRefusals named
 measure-room N t rows z =
-    let c : AllClear (refusals N ++ measureRefusals N t rows) = quiet (refusals N ++ measureRefusals N t rows) (costOf N t) refl z in
-    let n = neither (differ (length t) (events N)) (shortFor N rows) (clear 9 c .nowhere 0 (omega arith)) in
+    let c = judged-clear N (arcs N) (measureRefusals N t rows) (costOf N t) refl z in
+    let n = neither (differ (length t) (events N)) (shortFor N rows) (clear 9 (c .1) .nowhere 0 (omega arith)) in
     record {
-      well = well-formed N (front (refusals N) (measureRefusals N t rows) c);
-      timetable = on-time (eqb-true (length t) (events N) (not-false _ (n .0))) (clear 14 c .nowhere);
+      well = well-formed N (c .0);
+      timetable = on-time (eqb-true (length t) (events N) (not-false _ (n .0))) (clear 14 (c .1) .nowhere);
       room = n .1;
     }
 

@@ -1,7 +1,7 @@
 -- The answers of printing, one law for each way out, and the rows of bytes with each. Assumes nothing.
 use mathlib.Core.Path.{_≡_, refl, sym, ap, _∙_}
 use mathlib.Core.Bool.{Bool, true, false, _||_}
-use mathlib.Core.List.{List}
+use mathlib.Core.List.{List, [], _∷_}
 use Prim.Native.Nat.{ℕ, _≤_, _<_}
 use native.Mathlib.Omega.{arith}
 use borrow.Author.Tests.{lt-ltb, le-ltb}
@@ -10,12 +10,11 @@ use lib.ListN.{length}
 use Rattle.network.specs.declared.Answer.{Answer}
 use Rattle.network.specs.declared.Filled.{Filled}
 use Rattle.network.specs.Network.{Network, events, arcs}
-use Rattle.network.specs.Refusals.{answer, filled, filledAs}
-use Rattle.network.specs.Table.{outside, uneven, refusalsWith}
-use Rattle.network.specs.Trial.{named}
+use Rattle.network.specs.Refusals.{answer, once, answerOf, filled, filledAs}
+use Rattle.network.specs.Table.{outside, uneven}
 use Rattle.network.proofs.Refusing.{once-refused, once-clear, refuses, succeeds, after-kept, after-written, filled-none, filled-some}
 use Rattle.network.proofs.Refusing.AllClear.{none, more}
-use Rattle.network.proofs.Sound.{even-of}
+use Rattle.network.proofs.Sound.{line-1, line-3, even-of}
 use Rattle.text.specs.Put.{Put, FiveRows}
 use Rattle.text.proofs.Puts.{put-onto}
 use Rattle.timetable.specs.PrintText.{eventsText, arcsText, printRefusals, printOf, Printed}
@@ -34,22 +33,24 @@ five-rows N e =
     record { heads = r .heads-long; lowers = r .lowers-long; uppers = r .uppers-long; weights = r .weights-long; few = r .few-arcs }
 
 module _ (N : Network) (E A : List ℕ) where
+  short : Bool
+  short = ltb (length E) (length (eventsText N)) || ltb (length A) (length (arcsText N))
+
+  -- the three lines as they stand
+  lines : answerOf (once 1 (outsideIn N) ∷ once 3 (unevenIn N) ∷ once 9 short ∷ []) 0 ≡ printOf N E A
+  unfolding printOf printRefusals short
+  lines = λ j. answerOf (sym (line-1 N (arcs N)) j ∷ sym (line-3 N (arcs N)) j ∷ once 9 short ∷ []) 0
+
   pub print-1 : outsideIn N ≡ true → answer 1 0 0 ≡ printOf N E A
-  unfolding printOf printRefusals named refusalsWith
-  print-1 e = refuses _ 0 none none (once-refused 1 e) (omega arith)
+  print-1 e = refuses _ 0 none none (once-refused 1 e) (omega arith) ∙ lines
 
   module _ (few : outsideIn N ≡ false) where
     pub print-3 : unevenIn N ≡ true → answer 3 0 0 ≡ printOf N E A
-    unfolding printOf printRefusals named refusalsWith
-    print-3 e = refuses _ 0 none (more (once-clear 1 few) none) (once-refused 3 e) (omega arith)
+    print-3 e = refuses _ 0 none (more (once-clear 1 few) none) (once-refused 3 e) (omega arith) ∙ lines
 
     module _ (even : unevenIn N ≡ false) where
-      short : Bool
-      short = ltb (length E) (length (eventsText N)) || ltb (length A) (length (arcsText N))
-
       nine : short ≡ true → answer 9 0 0 ≡ printOf N E A
-      unfolding printOf printRefusals named refusalsWith short
-      nine e = refuses _ 0 none (more (once-clear 1 few) (more (once-clear 3 even) none)) (once-refused 9 e) (omega arith)
+      nine e = refuses _ 0 none (more (once-clear 1 few) (more (once-clear 3 even) none)) (once-refused 9 e) (omega arith) ∙ lines
 
       pub print-9-events : length E < length (eventsText N) → answer 9 0 0 ≡ printOf N E A
       unfolding short
@@ -64,8 +65,7 @@ module _ (N : Network) (E A : List ℕ) where
         print-9-arcs h = nine (by-arcs ∙ lt-ltb _ _ h)
 
         pub print-0 : length (arcsText N) ≤ length A → answer 0 0 0 ≡ printOf N E A
-        unfolding printOf printRefusals named refusalsWith short
-        print-0 h = succeeds 0 none (more (once-clear 1 few) (more (once-clear 3 even) (more (once-clear 9 (by-arcs ∙ le-ltb _ _ h)) none)))
+        print-0 h = succeeds 0 none (more (once-clear 1 few) (more (once-clear 3 even) (more (once-clear 9 (by-arcs ∙ le-ltb _ _ h)) none))) ∙ lines
 
   -- ---- the answer and the rows together
 

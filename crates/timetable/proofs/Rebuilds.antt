@@ -1,6 +1,6 @@
 -- The answers of rebuild, one law for each way out. Assumes nothing.
 use mathlib.Core.Path.{_≡_, refl, sym, ap, _∙_, subst}
-use mathlib.Core.List.{List, _++_}
+use mathlib.Core.List.{List}
 use mathlib.Core.Bool.{not}
 use Prim.Native.Nat.{ℕ, _≤_, _<_}
 use native.Mathlib.Omega.{arith}
@@ -13,15 +13,14 @@ use Rattle.network.specs.declared.Answer.{Answer}
 use Rattle.network.specs.Network.{Network, events, arcs, period}
 use Rattle.network.specs.PublicRule.{costOf}
 use Rattle.network.specs.First.{First}
-use Rattle.network.specs.Refusals.{answer, once}
+use Rattle.network.specs.Refusals.{answer, once, named}
 use Rattle.network.specs.Table.{refusalsWith, refusalOf}
-use Rattle.network.specs.Trial.{named}
 use Rattle.network.specs.Rows.{other, astray, written}
 use Rattle.walks.specs.Times.{Anchored}
 use Rattle.walks.specs.Place.{Placed}
-use Rattle.network.proofs.Refusing.{Clear, AllClear, coded, quiet, clear, front, once-refused, once-clear, clear-of, stopped, refuses, succeeds}
+use Rattle.network.proofs.Refusing.{Clear, AllClear, coded, clear, once-refused, once-clear, clear-of, stopped, refuses, succeeds}
 use Rattle.network.proofs.Refusing.AllClear.{none, more}
-use Rattle.network.proofs.Sound.{all-clear, well-with, long-with}
+use Rattle.network.proofs.Sound.{all-clear, well-with, long-with, judged-clear}
 use Rattle.timetable.specs.Rebuild.{rebuildRefusals, rebuildJudged, graph, Sheet, Borrowed, Restored, Rebuilt}
 use Rattle.timetable.specs.Rebuild.Restored.{impossible, restored}
 use Rattle.timetable.specs.Rebuild.Rebuilt.{refused}
@@ -73,21 +72,20 @@ judged-sheet N x times s l =
     (more (record { nowhere = λ v h. ap not (eq-eqb _ _ (s .one-period v h)) }) (more (record { nowhere = s .within }) none)))))
 
 pub room-judged : (N : Network) (x : List ℤ) (times : List ℕ) → rebuildJudged N x times .code ≡ 0 → events N ≤ length times
-unfolding rebuildJudged coded refusalsWith rebuildRefusals named
+unfolding rebuildJudged coded rebuildRefusals named
 room-judged N x times z =
-    let c = quiet (refusalsWith N (length x) ++ rebuildRefusals N x times) 0 refl z in
+    let c = judged-clear N (length x) (rebuildRefusals N x times) 0 refl z .1 in
     ltb-false (length times) (events N) (clear 9 c .nowhere 0 (omega arith))
 
 pub sheet-judged : (N : Network) (x : List ℤ) (times : List ℕ) → rebuildJudged N x times .code ≡ 0 → Sheet N x
-unfolding rebuildJudged coded refusalsWith rebuildRefusals named
+unfolding rebuildJudged coded rebuildRefusals named
 sheet-judged N x times z =
-    let c : AllClear (refusalsWith N (length x) ++ rebuildRefusals N x times) = quiet (refusalsWith N (length x) ++ rebuildRefusals N x times) 0 refl z in
-    let w = front (refusalsWith N (length x)) (rebuildRefusals N x times) c in
+    let c = judged-clear N (length x) (rebuildRefusals N x times) 0 refl z in
     record {
-      well = well-with N (length x) w;
-      long = long-with N (length x) w;
-      one-period = λ v h. eqb-true (period N v) (period N 0) (not-false _ (clear 11 c .nowhere v h));
-      within = λ a h. clear 12 c .nowhere a h;
+      well = well-with N (length x) (c .0);
+      long = long-with N (length x) (c .0);
+      one-period = λ v h. eqb-true (period N v) (period N 0) (not-false _ (clear 11 (c .1) .nowhere v h));
+      within = λ a h. clear 12 (c .1) .nowhere a h;
     }
 
 -- ---- by what the walks found

@@ -6,7 +6,6 @@ use Prim.Native.Nat.{ℕ, _+_, _≤_, _<_}
 use native.Mathlib.Nat.{le-antisymm}
 use native.Mathlib.Decide.{decLt}
 use native.Mathlib.Omega.{arith}
-use borrow.Author.Tests.{lt-ltb, ltb-true}
 use lib.IntN.{ℤ, pos, _+ℤ_, _-ℤ_}
 use lib.Signed.{_<ℤ_}
 use lib.ListN.{length}
@@ -16,9 +15,10 @@ use Rattle.numbers.specs.Remainder.{Cong}
 use Rattle.numbers.specs.Row.{at, atℤ}
 use Rattle.numbers.proofs.Divisors.{gcd-same}
 use Rattle.network.specs.Network.{Network, events, arcs, period, tail, head, lower}
-use Rattle.network.specs.PublicRule.{arcPeriod, slackBy, slack, tension, working, allowed}
+use Rattle.network.specs.PublicRule.{arcPeriod, slackBy, slack, tension, working}
 use Rattle.network.specs.Trial.{Sound}
 use Rattle.network.proofs.Sound.{sound, insideℤ}
+use Rattle.network.proofs.Times.{in-time, all-in-time}
 use Rattle.network.proofs.Width.{narrow}
 use Rattle.walks.specs.Walk.{Between}
 use Rattle.walks.specs.Times.{Anchored}
@@ -70,17 +70,15 @@ module _ {N : Network} {x : List ℤ} (s : Sheet N x) where
   }
 
   pub stands : {t : List ℕ} → length t ≡ events N → Anchored (graph N) (atℤ x) (period N 0) (events N) (arcs N) (at t) → Stands N x t
-  unfolding allowed
   stands {t} l A = record {
-    timetable = record { long = l; inside = λ v h. lt-ltb (at t v) (period N v) (omega (arith, A .under v h, s .one-period v h)) };
+    timetable = all-in-time l (λ v h. omega (arith, A .under v h, s .one-period v h));
     tensions = λ a h. rule t a h .1 (A .fits a h .apart);
     anchor = A .anchor;
   }
 
   pub anchored : {t : List ℕ} → Stands N x t → Anchored (graph N) (atℤ x) (period N 0) (events N) (arcs N) (at t)
-  unfolding allowed
   anchored {t} S = record {
-    under = λ v h. omega (arith, ltb-true (at t v) (period N v) (S .timetable .inside v h), s .one-period v h);
+    under = λ v h. omega (arith, in-time (S .timetable) h, s .one-period v h);
     fits = λ a h. record { apart = rule t a h .0 (S .tensions a h) };
     anchor = S .anchor;
   }

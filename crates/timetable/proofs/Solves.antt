@@ -1,6 +1,6 @@
 -- The answers of solve, one law for each way out. Assumes nothing.
 use mathlib.Core.Path.{_≡_, refl, sym, ap, _∙_}
-use mathlib.Core.List.{List, _++_}
+use mathlib.Core.List.{List}
 use mathlib.Core.Bool.{Bool, true, false, not, _||_}
 use Prim.Native.Nat.{ℕ, _≤_, _<_}
 use native.Mathlib.Omega.{arith}
@@ -11,15 +11,14 @@ use Rattle.network.specs.declared.Answer.{Answer}
 use Rattle.network.specs.Network.{Network, events, arcs}
 use Rattle.numbers.specs.Row.{at}
 use Rattle.network.specs.PublicRule.{Feasible, Smallest}
-use Rattle.network.specs.Refusals.{answer}
-use Rattle.network.specs.Table.{refusals, refusalsWith, refusalOf, WellFormed}
+use Rattle.network.specs.Refusals.{answer, named}
+use Rattle.network.specs.Table.{refusals, refusalOf, WellFormed}
 use Rattle.network.specs.Rows.{written, ArcRows, shortFor}
-use Rattle.network.specs.Trial.{named}
 use Rattle.network.specs.Inner.{Noted}
 use Rattle.network.proofs.Scans.{true-false}
-use Rattle.network.proofs.Refusing.{AllClear, coded, quiet, clear, front, once-refused, once-clear, stopped, refuses, succeeds}
+use Rattle.network.proofs.Refusing.{AllClear, coded, clear, once-refused, once-clear, stopped, refuses, succeeds}
 use Rattle.network.proofs.Refusing.AllClear.{none, more}
-use Rattle.network.proofs.Sound.{neither, all-clear, well-formed}
+use Rattle.network.proofs.Sound.{neither, all-clear, well-formed, judged-clear}
 use Rattle.search.specs.Looked.{Looked}
 use Rattle.search.specs.Looked.Looked.{found, nothing}
 use Rattle.timetable.specs.Solve.{solveRefusals, solveJudged, Solved, Found}
@@ -33,17 +32,17 @@ module _ (N : Network) (times : List ℕ) (rows : ArcRows) where
 
   -- nothing refuses only where the network is well-formed, and there is room
   module _ (z : solveJudged N times rows .code ≡ 0) where
-    none-applies : AllClear (refusals N ++ solveRefusals N times rows)
-    unfolding solveJudged coded refusalsWith solveRefusals
-    none-applies = quiet (refusals N ++ solveRefusals N times rows) 0 refl z
+    none-applies : AllClear (refusals N) × AllClear (solveRefusals N times rows)
+    unfolding solveJudged coded solveRefusals
+    none-applies = judged-clear N (arcs N) (solveRefusals N times rows) 0 refl z
 
     pub solve-well : WellFormed N
-    solve-well = well-formed N (front (refusals N) (solveRefusals N times rows) none-applies)
+    solve-well = well-formed N (none-applies .0)
 
     pub solve-room : (events N ≤ length times) × (shortFor N rows ≡ false)
-    unfolding refusalsWith solveRefusals named
+    unfolding solveRefusals named
     solve-room =
-        let n = neither (ltb (length times) (events N)) (shortFor N rows) (clear 9 none-applies .nowhere 0 (omega arith)) in
+        let n = neither (ltb (length times) (events N)) (shortFor N rows) (clear 9 (none-applies .1) .nowhere 0 (omega arith)) in
         (ltb-false _ _ (n .0), n .1)
 
   module _ (w : WellFormed N) where

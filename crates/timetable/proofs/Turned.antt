@@ -19,14 +19,9 @@ use Rattle.timetable.specs.Measure.{Measured}
 use Rattle.timetable.specs.Solve.{Solved}
 use Rattle.timetable.specs.Solve.Found.{infeasible, solved}
 use Rattle.timetable.specs.Solve.Solved.{refused, searched}
+use Rattle.timetable.specs.Demands.{Turned}
 use Rattle.timetable.proofs.Measures.{measure-room}
 use Rattle.timetable.proofs.Solves.{solve-well, solve-room}
-
--- of times and of rows that came back: the turn of arc a is the only number that gives its tension, and within the request's limits
-pub record Turned (N : Network) (t : List ℕ) (rows : ArcRows) (a : ℕ) : Type 0 where
-  pub gives : atℤ (rows .tensions) a ≡ turnedBy N t a (atℤ (rows .turns) a)
-  pub only : (z : ℤ) → atℤ (rows .tensions) a ≡ turnedBy N t a z → z ≡ atℤ (rows .turns) a
-  pub within : natAbs (atℤ (rows .turns) a) ≤ 14400
 
 noted-turned : {N : Network} {t : List ℕ} {was is : ArcRows} {a : ℕ} → Room N t was → is ≡ noted N t was → a < arcs N → Turned N t is a
 unfolding noted

@@ -9,9 +9,9 @@ use Rattle.network.specs.declared.Answer.{Answer}
 use Rattle.network.specs.declared.Filled.{Filled}
 use Rattle.network.specs.Network.{Network, arcs}
 use Rattle.network.specs.Refusals.{Refusal, once, answerOf, after, filledAs}
-use Rattle.network.specs.Trial.{line}
 use Rattle.text.specs.Text.{arcsOf, eventLayout, arcLayout, printed}
 use Rattle.text.specs.Fill.{onto}
+use Rattle.network.specs.Table.{line}
 
 -- the two texts of a network
 abbrev pub eventsText : Network → List ℕ

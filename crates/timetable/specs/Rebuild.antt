@@ -38,6 +38,13 @@ graph N = graphOf (N .tails) (N .heads)
 abbrev pub Allowed : Network → List ℤ → ℕ → Type 0
 Allowed N x k = Consistent (graph N) (atℤ x) (period N 0) k
 
+-- a sheet: a well-formed network of one period, and each listed tension within its arc's working bounds
+pub record Sheet (N : Network) (x : List ℤ) : Type 0 where
+  pub well : WellFormed N
+  pub long : length x ≡ arcs N
+  pub one-period : (v : ℕ) → v < events N → period N v ≡ period N 0
+  pub within : (a : ℕ) → a < arcs N → astray N x a ≡ false
+
 -- a timetable with the listed tensions, in which the lowest event of each part stands at 0
 pub record Stands (N : Network) (x : List ℤ) (t : List ℕ) : Type 0 where
   pub timetable : Timetable N t
@@ -53,16 +60,8 @@ pub data Rebuilt (N : Network) (x : List ℤ) (times times′ : List ℕ) (r : A
   refused : (r .code ≡ 0 → ⊥) → r ≡ rebuildJudged N x times → times′ ≡ times → Rebuilt N x times times′ r
   judged : rebuildJudged N x times .code ≡ 0 → Restored N x times times′ r → Rebuilt N x times times′ r
 
--- ---- for the inner function
+-- ---- for the inner function: rows for the work, and room for the answer
 
--- one period, and each listed tension within its arc's working bounds
-pub record Sheet (N : Network) (x : List ℤ) : Type 0 where
-  pub well : WellFormed N
-  pub long : length x ≡ arcs N
-  pub one-period : (v : ℕ) → v < events N → period N v ≡ period N 0
-  pub within : (a : ℕ) → a < arcs N → astray N x a ≡ false
-
--- rows for the work, and room for the answer
 pub record Borrowed (N : Network) (x : List ℤ) (label row times : List ℕ) : Type 0 where
   pub sheet : Sheet N x
   pub label-long : length label ≡ events N

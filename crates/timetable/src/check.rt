@@ -1,5 +1,5 @@
 // Check: is a given timetable right?
-ghost use Rattle.network.specs.Network.{netOf};
+ghost use Rattle.network.specs.Network.{netAt};
 ghost use Rattle.timetable.specs.Check.{Checked};
 use network::Answer;
 
@@ -13,7 +13,7 @@ pub fn check(
     weight: &[u32],
     times: &[u32],
 ) -> Answer
-    ensures { λ r. ⌜ Checked (netOf (periods .entry) (tail .entry) (head .entry) (lower .entry) (upper .entry) (weight .entry)) (now (times .entry)) r ⌝ }
+    ensures { λ r. ⌜ Checked (netAt periods tail head lower upper weight) (now (times .entry)) r ⌝ }
 {
     let found = network::table::refusal(periods, tail, head, lower, upper, weight, tail.len());
     if found.code != 0 {

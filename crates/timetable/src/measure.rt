@@ -1,6 +1,6 @@
 // Measure: the tensions, the turns and the cost of a given timetable.
-ghost use Rattle.network.specs.Network.{netOf};
-ghost use Rattle.network.specs.Rows.{arcRowsOf};
+ghost use Rattle.network.specs.Network.{netAt};
+ghost use Rattle.network.specs.Rows.{arcRowsAt, arcRowsLeft};
 ghost use Rattle.timetable.specs.Measure.{Measured};
 use network::Answer;
 
@@ -16,7 +16,7 @@ pub fn measure(
     tensions: &mut [i32],
     turns: &mut [i32],
 ) -> Answer
-    ensures { λ r. ⌜ Measured (netOf (periods .entry) (tail .entry) (head .entry) (lower .entry) (upper .entry) (weight .entry)) (now (times .entry)) (arcRowsOf (tensions .entry) (turns .entry)) (arcRowsOf (tensions .exit) (turns .exit)) r ⌝ }
+    ensures { λ r. ⌜ Measured (netAt periods tail head lower upper weight) (now (times .entry)) (arcRowsAt tensions turns) (arcRowsLeft tensions turns) r ⌝ }
 {
     let found = network::table::refusal(periods, tail, head, lower, upper, weight, tail.len());
     if found.code != 0 {

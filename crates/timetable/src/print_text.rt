@@ -1,5 +1,5 @@
 // Print: a network as the office's two texts.
-ghost use Rattle.network.specs.Network.{netOf};
+ghost use Rattle.network.specs.Network.{netAt};
 ghost use Rattle.timetable.specs.PrintText.{Printed};
 use network::Filled;
 
@@ -14,7 +14,7 @@ pub fn print_text(
     events: &mut [u8],
     arcs: &mut [u8],
 ) -> Filled
-    ensures { λ r. ⌜ Printed (netOf (periods .entry) (tail .entry) (head .entry) (lower .entry) (upper .entry) (weight .entry)) (now (events .entry)) (now (arcs .entry)) (now (events .exit)) (now (arcs .exit)) r ⌝ }
+    ensures { λ r. ⌜ Printed (netAt periods tail head lower upper weight) (now (events .entry)) (now (arcs .entry)) (now (events .exit)) (now (arcs .exit)) r ⌝ }
 {
     if network::table::outside(1, 64, periods.len()) {
         return network::unfilled(1, 0);

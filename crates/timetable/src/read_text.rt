@@ -1,6 +1,6 @@
 // Read: a network from the office's two texts.
 ghost use mathlib.Core.Path.{_≡_};
-ghost use Rattle.network.specs.Network.{netOf};
+ghost use Rattle.network.specs.Network.{netAt, netLeft};
 ghost use Rattle.timetable.specs.ReadText.{Read, cramped as crampedOf};
 use network::Filled;
 
@@ -44,7 +44,7 @@ pub fn read_text(
     upper: &mut [i32],
     weight: &mut [u32],
 ) -> Filled
-    ensures { λ r. ⌜ Read (now (events .entry)) (now (arcs .entry)) (netOf (periods .entry) (tail .entry) (head .entry) (lower .entry) (upper .entry) (weight .entry)) (netOf (periods .exit) (tail .exit) (head .exit) (lower .exit) (upper .exit) (weight .exit)) r ⌝ }
+    ensures { λ r. ⌜ Read (now (events .entry)) (now (arcs .entry)) (netAt periods tail head lower upper weight) (netLeft periods tail head lower upper weight) r ⌝ }
 {
     if cramped(
         periods.len(),

@@ -1,5 +1,5 @@
 // Rebuild: tensions to a timetable.
-ghost use Rattle.network.specs.Network.{netOf};
+ghost use Rattle.network.specs.Network.{netOf, netAt};
 ghost use Rattle.timetable.specs.Rebuild.{Rebuilt, Restored, Borrowed};
 use network::Answer;
 
@@ -17,7 +17,7 @@ fn restore(
     times: &mut [u32],
 ) -> Answer
     requires { ⌜ Borrowed (netOf periods tail head lower upper weight) (now tensions) (now label) (now row) (now times) ⌝ }
-    ensures { λ r. ⌜ Restored (netOf (periods .entry) (tail .entry) (head .entry) (lower .entry) (upper .entry) (weight .entry)) (now (tensions .entry)) (now (times .entry)) (now (times .exit)) r ⌝ }
+    ensures { λ r. ⌜ Restored (netAt periods tail head lower upper weight) (now (tensions .entry)) (now (times .entry)) (now (times .exit)) r ⌝ }
 {
     let period = periods[0];
     let stop = walks::place_arcs(tail, head, tensions, period, label, row);
@@ -44,7 +44,7 @@ pub fn rebuild(
     tensions: &[i32],
     times: &mut [u32],
 ) -> Answer
-    ensures { λ r. ⌜ Rebuilt (netOf (periods .entry) (tail .entry) (head .entry) (lower .entry) (upper .entry) (weight .entry)) (now (tensions .entry)) (now (times .entry)) (now (times .exit)) r ⌝ }
+    ensures { λ r. ⌜ Rebuilt (netAt periods tail head lower upper weight) (now (tensions .entry)) (now (times .entry)) (now (times .exit)) r ⌝ }
 {
     let found = network::table::refusal(periods, tail, head, lower, upper, weight, tensions.len());
     if found.code != 0 {

@@ -1,6 +1,6 @@
 // Solve: the smallest feasible timetable of a network.
-ghost use Rattle.network.specs.Network.{netOf};
-ghost use Rattle.network.specs.Rows.{arcRowsOf};
+ghost use Rattle.network.specs.Network.{netOf, netAt};
+ghost use Rattle.network.specs.Rows.{arcRowsOf, arcRowsAt, arcRowsLeft};
 ghost use Rattle.timetable.specs.Solve.{Solved, Found, Lent};
 use network::Answer;
 
@@ -18,7 +18,7 @@ fn settle(
     turns: &mut [i32],
 ) -> Answer
     requires { ⌜ Lent (netOf periods tail head lower upper weight) (now row) (now times) (arcRowsOf tensions turns) ⌝ }
-    ensures { λ r. ⌜ Found (netOf (periods .entry) (tail .entry) (head .entry) (lower .entry) (upper .entry) (weight .entry)) (now (times .entry)) (arcRowsOf (tensions .entry) (turns .entry)) (now (times .exit)) (arcRowsOf (tensions .exit) (turns .exit)) r ⌝ }
+    ensures { λ r. ⌜ Found (netAt periods tail head lower upper weight) (now (times .entry)) (arcRowsAt tensions turns) (now (times .exit)) (arcRowsLeft tensions turns) r ⌝ }
 {
     if !closure::smallest(periods, tail, head, lower, upper, weight, row) {
         return network::refused(10, 0);
@@ -54,7 +54,7 @@ pub fn solve(
     tensions: &mut [i32],
     turns: &mut [i32],
 ) -> Answer
-    ensures { λ r. ⌜ Solved (netOf (periods .entry) (tail .entry) (head .entry) (lower .entry) (upper .entry) (weight .entry)) (now (times .entry)) (arcRowsOf (tensions .entry) (turns .entry)) (now (times .exit)) (arcRowsOf (tensions .exit) (turns .exit)) r ⌝ }
+    ensures { λ r. ⌜ Solved (netAt periods tail head lower upper weight) (now (times .entry)) (arcRowsAt tensions turns) (now (times .exit)) (arcRowsLeft tensions turns) r ⌝ }
 {
     let found = network::table::refusal(periods, tail, head, lower, upper, weight, tail.len());
     if found.code != 0 {

@@ -3,6 +3,7 @@ pub mod Walks
 pub mod Labels
 pub mod Arcs
 pub mod Rows
+pub mod Model
 pub mod Models
 pub mod Theorems
 pub mod Bounds

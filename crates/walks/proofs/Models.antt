@@ -17,7 +17,7 @@ use Rattle.walks.specs.Walk.{Graph, Between, Closed}
 use Rattle.numbers.specs.Row.{at}
 use Rattle.walks.specs.Times.{Consistent}
 use Rattle.walks.specs.Label.{Labelled, Shifted}
-use Rattle.walks.specs.Model.{Mark, markOf, own, move, Next, marks, none, step, Out, timetable, refused, run, answer}
+use Rattle.walks.proofs.Model.{Mark, markOf, own, move, Next, marks, none, step, Out, timetable, refused, run, answer}
 use Rattle.walks.proofs.Walks.{fewer-between}
 use Rattle.walks.proofs.Labels.{at-first, consistent}
 use Rattle.numbers.proofs.Remainders.{mod-cong}

@@ -13,7 +13,7 @@ use Rattle.numbers.proofs.Remainders.{below-same}
 use Rattle.walks.specs.Walk.{Graph, Between, Closed}
 use Rattle.walks.specs.Times.{Consistent, Anchored}
 use Rattle.walks.specs.Label.{Labelled}
-use Rattle.walks.specs.Model.{Out, timetable, refused, answer}
+use Rattle.walks.proofs.Model.{Out, timetable, refused, answer}
 use Rattle.walks.proofs.Walks.{fewer-closed, rises, closed}
 use Rattle.walks.proofs.Labels.{consistent, level-walk}
 use Rattle.walks.proofs.Models.{Found, Right, answer-right}

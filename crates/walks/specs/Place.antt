@@ -5,6 +5,8 @@ use mathlib.Core.List.{List}
 use Prim.Native.Nat.{ℕ, _+_, _≤_, _<_}
 use lib.IntN.{ℤ, pos}
 use lib.ListN.{length}
+use denote.Ref.{RefT, now}
+use denote.Triple.Both.{Both}
 use Rattle.walks.specs.Walk.{graphOf, Between}
 use Rattle.numbers.specs.Row.{at, atℤ}
 use Rattle.walks.specs.Times.{Consistent, Anchored}
@@ -32,6 +34,12 @@ pub record Placed (tail head : List ℕ) (tensions : List ℤ) (T : ℕ) (label 
   pub timetable : r ≡ length tail → Anchored (graphOf tail head) (atℤ tensions) T (length times) (length tail) (at times′)
   pub label-long : length label′ ≡ length label
   pub times-long : length times′ ≡ length times
+
+-- of the parameters of the call
+abbrev pub PlacedBy : {A B C : Type 0} → Both (RefT (List ℕ)) A → Both (RefT (List ℕ)) B → Both (RefT (List ℤ)) C → ℕ
+    → Both (RefT (List ℕ)) (RefT (List ℕ)) → Both (RefT (List ℕ)) (RefT (List ℕ)) → ℕ → Type 0
+PlacedBy tail head tensions T label times r =
+    Placed (now (tail .entry)) (now (head .entry)) (now (tensions .entry)) T (now (label .entry)) (now (times .entry)) (now (label .exit)) (now (times .exit)) r
 
 -- ---- inner
 

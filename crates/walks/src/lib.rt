@@ -3,7 +3,7 @@ ghost use Prim.Native.Nat.{_<_};
 ghost use lib.IntN.{pos, _+ℤ_, _-ℤ_};
 ghost use lib.ListN.{length};
 ghost use Rattle.numbers.specs.Remainder.{IsRemainder};
-ghost use Rattle.walks.specs.Place.{Paired, Given, Placed, Begun, Ready, Moved, Placing, Took};
+ghost use Rattle.walks.specs.Place.{Paired, Given, PlacedBy, Begun, Ready, Moved, Placing, Took};
 
 // By how much `from` and the tension run past `to`, from 0 to the period less 1.
 fn excess(from: u32, tension: i32, to: u32, period: u32) -> u32
@@ -81,7 +81,7 @@ pub fn place_arcs(
     times: &mut [u32],
 ) -> usize
     requires { ⌜ Given (now tail) (now head) (now tensions) period (now label) (now times) ⌝ }
-    ensures { λ r. ⌜ Placed (now (tail .entry)) (now (head .entry)) (now (tensions .entry)) period (now (label .entry)) (now (times .entry)) (now (label .exit)) (now (times .exit)) r ⌝ }
+    ensures { λ r. ⌜ PlacedBy tail head tensions period label times r ⌝ }
 {
     begin(label, times);
     let mut k = 0;

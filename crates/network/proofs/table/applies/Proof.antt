@@ -5,13 +5,13 @@ use lib.IntN.{pos, negsuc}
 use lib.Signed.{ltZ}
 use lib.Dec.{eqb}
 use Rattle.network.specs.Network.{Network, net, events}
-use Rattle.network.specs.Trial.{named}
 use Rattle.network.specs.Table.{outside, outsideℤ, strays, refusalsWith}
 use Rattle.network.proofs.Arcs.{kept}
 use Rattle.network.proofs.Trials.{ArcAt, at-code, place-at, arc-at, no-code}
 use borrow.Author.Needs.{needs}
 use Rattle.network.proofs.table.applies.Statement.{statement}
 use Rattle.network.proofs.table.applies.Tie as tie
+use Rattle.network.specs.Refusals.{named}
 
 abbrev start : tie.After-shared-slice-known4 → tie.Start
 start c = c .before .before .before .before

@@ -5,10 +5,10 @@ use native.Mathlib.Nat.{le-antisymm}
 use native.Mathlib.Omega.{arith}
 use Rattle.network.specs.Network.{net}
 use Rattle.network.proofs.Scans.{Passed, passed-none, passed-more, first-hit, first-miss}
-use Rattle.network.specs.Trial.{line}
 use Rattle.network.proofs.Trials.{scanned-18}
 use Rattle.network.proofs.table.first_place.Statement.{statement}
 use Rattle.network.proofs.table.first_place.Tie as tie
+use Rattle.network.specs.Table.{line}
 
 abbrev Inv-loop : tie.InvT-loop
 Inv-loop periods tail head lower upper weight further code count i₀ i = (i ≤ count) × Passed (line (net periods tail head lower upper weight) further code .applies) i

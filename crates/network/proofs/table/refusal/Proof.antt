@@ -7,10 +7,11 @@ use lib.ListN.{length}
 use borrow.Author.Needs.{needs}
 use Rattle.network.specs.Network.{Network, net}
 use Rattle.numbers.specs.Row.{at}
-use Rattle.network.specs.Trial.{line, order}
+use Rattle.network.specs.Trial.{order}
 use Rattle.network.proofs.Trials.{Tried, Turn, turn, tried-none, tried-more, tried-refused, tried-all, scanned-clear}
 use Rattle.network.proofs.table.refusal.Statement.{statement}
 use Rattle.network.proofs.table.refusal.Tie as tie
+use Rattle.network.specs.Table.{line}
 
 abbrev Inv-loop : tie.InvT-loop
 Inv-loop periods tail head lower upper weight further order₀ k₀ k = (k ≤ length order) × Tried (net periods tail head lower upper weight) further k
