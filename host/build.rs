@@ -6,8 +6,8 @@ use std::process::Command;
 use std::{env, fs};
 
 /// The calls, and what the tests measure of the closure.
-const ARCHIVE: &str = "../target/staticlib/librubblewaltz.a";
-const GAUGE: &str = "../target/staticlib/libgauge.a";
+const ARCHIVE: &str = "../crates/rubblewaltz/out/librubblewaltz.a";
+const GAUGE: &str = "../crates/gauge/out/libgauge.a";
 
 /// How a C program is compiled for x86-64, without its C library: start.c stands in for that.
 const CROSS_COMPILER: [&str; 7] = [
@@ -28,7 +28,7 @@ fn main() {
         (Ok(bytes), Ok(_)) if is_native(&bytes) => link(),
         (Ok(_), Ok(_)) => build_bridge(),
         _ => println!(
-            "cargo::error=an archive is absent: run rt staticlib rubblewaltz and rt staticlib gauge"
+            "cargo::error=an archive is absent: run rt lib in crates/rubblewaltz and in crates/gauge"
         ),
     }
 }
@@ -45,9 +45,11 @@ fn is_native(archive: &[u8]) -> bool {
 }
 
 fn link() {
-    let folder = Path::new(env!("CARGO_MANIFEST_DIR")).join(ARCHIVE);
-    let folder = folder.parent().expect("the archive's folder");
-    println!("cargo::rustc-link-search=native={}", folder.display());
+    for archive in [ARCHIVE, GAUGE] {
+        let file = Path::new(env!("CARGO_MANIFEST_DIR")).join(archive);
+        let folder = file.parent().expect("the archive's folder");
+        println!("cargo::rustc-link-search=native={}", folder.display());
+    }
     println!("cargo::rustc-link-lib=static=rubblewaltz");
     println!("cargo::rustc-link-lib=static=gauge");
     println!("cargo::rustc-env=RUBBLEWALTZ_CC=cc");

@@ -16,7 +16,7 @@ pub fn compile(name: &str, folder: &Path) -> PathBuf {
         .args(compiler)
         .args(["-std=c11", "-Wall", "-Wextra", "-Werror", "-I../include"])
         .arg(format!("tests/{name}.c"))
-        .args(["../target/staticlib/librubblewaltz.a", "-o"])
+        .args(["../crates/rubblewaltz/out/librubblewaltz.a", "-o"])
         .arg(&program)
         .status()
         .expect("the C compiler starts");

@@ -25,7 +25,7 @@ unfolding gcd remainder quotient arc_period slack tension turn_of working width_
 all = refl
 
 -- and so of each case
-same-each : (f g : Case → Outcome) {l : List Case} → map f l ≡ map g l → {c : Case} → Memᴰ c l → f c ≡ g c
+same-each : (f g : Case → Outcome) {c : Case} {l : List Case} → map f l ≡ map g l → Memᴰ c l → f c ≡ g c
 same-each f g e (Memᴰ.head {x = x} q) = let h : f x ≡ g x = cc in rw q h
 same-each f g e (Memᴰ.tail m) = same-each f g (cc) m
 

@@ -139,48 +139,51 @@ picks_taken h e = rw e (taken h)
 -- arc a is looked at: it is passed over, or written
 pub grown_picks : {R : Reduced} {bars bars' : List ℕ} {i a c d : ℕ} → Sized R → a < R.arcs → Grown R bars i a c → (near_in R.bars a ≡ i → c < 2272)
     → Picks R.bars bars i a c bars' d → Grown R bars' i (a + 1) d
-grown_picks {R} {bars} {bars'} {i} {a} {c} s h g room (passed n) = record {
-  long = g.long;
-  each = g.each;
-  earlier = g.earlier;
-  present = λ b l e. pick b e (eq-or-lt_of_le (omega arith));
-}
+grown_picks {R} {bars} {i = i} {a = a} {c = c} s h g room p = picked p
   where
-    pick : (b : ℕ) → near_in R.bars b ≡ i → (b ≡ a) ⊎ (b < a) → Stands R.bars bars c b
-    pick b e (inl q) = absurd (n (rw q at e))
-    pick b e (inr l) = g.present b l e
-grown_picks {R} {bars} {bars'} {i} {a} {c} s h g room (taken e) = record {
-  long = more.long;
-  each = more.each;
-  earlier = more.earlier;
-  present = λ b l q. pick b q (eq-or-lt_of_le (omega arith));
-}
-  where
-    own : List ℕ
-    own = R.bars
-
-    wide : 5 * c + 4 < length bars
-    wide = omega (arith, g.long, room e)
-
-    more : Grown R (put bars c (near_in own a) (last_in own a) (shift_in own a) (run_in own a) (gap_in own a)) i a (c + 1)
-    more = grown_put bars c (near_in own a) (last_in own a) (shift_in own a) (run_in own a) (gap_in own a) wide g (own_arc s h)
-
-    new : Stands own (put bars c (near_in own a) (last_in own a) (shift_in own a) (run_in own a) (gap_in own a)) (c + 1) a
-    new = record {
-      place = c;
-      inside = omega arith;
-      same = record {
-        near_is = put_near bars c (near_in own a) (last_in own a) (shift_in own a) (run_in own a) (gap_in own a) wide;
-        last_is = put_last bars c (near_in own a) (last_in own a) (shift_in own a) (run_in own a) (gap_in own a) wide;
-        shift_is = put_shift bars c (near_in own a) (last_in own a) (shift_in own a) (run_in own a) (gap_in own a) wide;
-        run_is = put_run bars c (near_in own a) (last_in own a) (shift_in own a) (run_in own a) (gap_in own a) wide;
-        gap_is = put_gap bars c (near_in own a) (last_in own a) (shift_in own a) (run_in own a) (gap_in own a) wide;
-      };
+    picked : {bars' : List ℕ} {d : ℕ} → Picks R.bars bars i a c bars' d → Grown R bars' i (a + 1) d
+    picked (passed n) = record {
+      long = g.long;
+      each = g.each;
+      earlier = g.earlier;
+      present = λ b l e. pick b e (eq-or-lt_of_le (omega arith));
     }
+      where
+        pick : (b : ℕ) → near_in R.bars b ≡ i → (b ≡ a) ⊎ (b < a) → Stands R.bars bars c b
+        pick b e (inl q) = absurd (n (rw q at e))
+        pick b e (inr l) = g.present b l e
+    picked (taken e) = record {
+      long = more.long;
+      each = more.each;
+      earlier = more.earlier;
+      present = λ b l q. pick b q (eq-or-lt_of_le (omega arith));
+    }
+      where
+        own : List ℕ
+        own = R.bars
 
-    pick : (b : ℕ) → near_in own b ≡ i → (b ≡ a) ⊎ (b < a) → Stands own (put bars c (near_in own a) (last_in own a) (shift_in own a) (run_in own a) (gap_in own a)) (c + 1) b
-    pick b q (inl r) = rw r new
-    pick b q (inr l) = more.present b l q
+        wide : 5 * c + 4 < length bars
+        wide = omega (arith, g.long, room e)
+
+        more : Grown R (put bars c (near_in own a) (last_in own a) (shift_in own a) (run_in own a) (gap_in own a)) i a (c + 1)
+        more = grown_put bars c (near_in own a) (last_in own a) (shift_in own a) (run_in own a) (gap_in own a) wide g (own_arc s h)
+
+        new : Stands own (put bars c (near_in own a) (last_in own a) (shift_in own a) (run_in own a) (gap_in own a)) (c + 1) a
+        new = record {
+          place = c;
+          inside = omega arith;
+          same = record {
+            near_is = put_near bars c (near_in own a) (last_in own a) (shift_in own a) (run_in own a) (gap_in own a) wide;
+            last_is = put_last bars c (near_in own a) (last_in own a) (shift_in own a) (run_in own a) (gap_in own a) wide;
+            shift_is = put_shift bars c (near_in own a) (last_in own a) (shift_in own a) (run_in own a) (gap_in own a) wide;
+            run_is = put_run bars c (near_in own a) (last_in own a) (shift_in own a) (run_in own a) (gap_in own a) wide;
+            gap_is = put_gap bars c (near_in own a) (last_in own a) (shift_in own a) (run_in own a) (gap_in own a) wide;
+          };
+        }
+
+        pick : (b : ℕ) → near_in own b ≡ i → (b ≡ a) ⊎ (b < a) → Stands own (put bars c (near_in own a) (last_in own a) (shift_in own a) (run_in own a) (gap_in own a)) (c + 1) b
+        pick b q (inl r) = rw r new
+        pick b q (inr l) = more.present b l q
 
 -- every arc was looked at for event i
 pub grown_row : {R : Reduced} {bars : List ℕ} {i c : ℕ} → Grown R bars i R.arcs c → Grown R bars (i + 1) 0 c
@@ -270,8 +273,11 @@ module _ (bars : List ℕ) (i : ℕ) where
 
   pub picks_count : {own' own'' : List ℕ} {a d e : ℕ} (c : ℕ) → Picks bars own' i a d own'' e → d + below bars i a ≡ c + below bars (i + 1) a
       → e + below bars i (a + 1) ≡ c + below bars (i + 1) (a + 1)
-  picks_count {a = a} c (passed n) k = omega (arith, row_no a n)
-  picks_count {a = a} c (taken h) k = omega (arith, row_yes a h)
+  picks_count {own' = own'} {a = a} {d = d} c p k = pick p
+    where
+      pick : {own'' : List ℕ} {e : ℕ} → Picks bars own' i a d own'' e → e + below bars i (a + 1) ≡ c + below bars (i + 1) (a + 1)
+      pick (passed n) = omega (arith, row_no a n)
+      pick (taken h) = omega (arith, row_yes a h)
 
 -- ---- the longer network
 

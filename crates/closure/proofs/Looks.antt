@@ -8,7 +8,7 @@ use Rattle.network.specs.Network.{Network, arcs}
 use Rattle.network.specs.PublicRule.{Feasible}
 use Rattle.network.specs.Trial.{Sound}
 use Rattle.network.proofs.Sound.{sound}
-use Rattle.search.specs.Reduced.{Reduced, reduced, Sized, put_arcs, BarsLent}
+use Rattle.search.specs.Reduced.{Reduced, reduced, put_arcs, BarsLent}
 use Rattle.search.specs.Looked.{Serves}
 use Rattle.search.proofs.Reducing.{serves}
 use Rattle.closure.specs.Tables.{Table, Roomy, SpreadAsks, Spread}

@@ -165,13 +165,15 @@ module _ {periods : List ℕ} {T : Table} {i j : ℕ} (s : Shaped periods T) (hi
 
 pub narrowed : {P : List ℕ → Type 0} {periods : List ℕ} {T T' : Table} {i j low width r : ℕ} → Shaped periods T → i < length periods → j < length periods
     → ((u : List ℕ) → P u → Keeps periods T u → Within (gap_at T i j) low width (at u i) (at u j)) → Narrowed T i j low width T' r → Tighter P periods T T' r
-narrowed {i = i} {j = j} s hi hj f (empty n) =
-    record { shaped = s; keeps = λ u p k. absurd (n (at u i) (at u j) (k.each i j hi hj) (f u p k)) }
-narrowed s hi hj f same = tighter_refl s
-narrowed {i = i} {j = j} s hi hj f (less l w h b) = record {
-  shaped = written_shaped s hi hj h;
-  keeps = λ u p k. ((λ e. omega arith), written_keeps s hi hj h (b (at u i) (at u j) (k.each i j hi hj) (f u p k)) k);
-}
+narrowed {P} {periods} {T} {i = i} {j = j} {low = low} {width = width} s hi hj f n = pick n
+  where
+    pick : {T' : Table} {r : ℕ} → Narrowed T i j low width T' r → Tighter P periods T T' r
+    pick (empty n) = record { shaped = s; keeps = λ u p k. absurd (n (at u i) (at u j) (k.each i j hi hj) (f u p k)) }
+    pick same = tighter_refl s
+    pick (less l w h b) = record {
+      shaped = written_shaped s hi hj h;
+      keeps = λ u p k. ((λ e. omega arith), written_keeps s hi hj h (b (at u i) (at u j) (k.each i j hi hj) (f u p k)) k);
+    }
 
 -- ---- what the cut of two spans leaves
 

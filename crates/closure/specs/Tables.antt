@@ -1,8 +1,6 @@
 -- The table of spans: for events i and j, at place 64 i + j, a span that holds the time of j less the time of i in every fitting timetable. Definitions
 -- alone.
 use Rattle.std.specs.Prelude.{◌≡◌, ◌⊎◌, List, ℕ, ◌+◌, ◌*◌, ◌<◌, ◌≤◌, length, set}
-use Rattle.std.specs.Borrow.{Bor}
-use denote.Triple.Both.{Both}
 use Rattle.numbers.specs.Divisor.{gcd}
 use Rattle.numbers.specs.Row.{at}
 use Rattle.search.specs.Reduced.{Reduced, Fitting, Sized}
@@ -15,20 +13,6 @@ pub record Table : Type 0 where
 
 abbrev pub table : List ℕ → List ℕ → List ℕ → Table
 table l w g = record { lows = l; widths = w; gaps = g }
-
--- of three lent rows
-abbrev pub table_of : Bor (List ℕ) → Bor (List ℕ) → Bor (List ℕ) → Table
-table_of l w g = table l.now w.now g.now
-
--- of three parameters of a call: as they are lent, as the call leaves them, and where it only reads the gaps
-abbrev pub table_at : {A B C : Type 0} → Both (Bor (List ℕ)) A → Both (Bor (List ℕ)) B → Both (Bor (List ℕ)) C → Table
-table_at l w g = table_of l.entry w.entry g.entry
-
-abbrev pub table_left : {A B C : Type 0} → Both A (Bor (List ℕ)) → Both B (Bor (List ℕ)) → Both C (Bor (List ℕ)) → Table
-table_left l w g = table_of l.exit w.exit g.exit
-
-abbrev pub spans_left : {A B C : Type 0} → Both A (Bor (List ℕ)) → Both B (Bor (List ℕ)) → Both (Bor (List ℕ)) C → Table
-spans_left l w g = table_of l.exit w.exit g.entry
 
 abbrev pub spot : ℕ → ℕ → ℕ
 spot i j = 64 * i + j

@@ -1,6 +1,6 @@
 // The table of spans for the arcs of a network.
 ghost use Rattle.search.specs.Reduced.{reduced, reduced_at, Fitting};
-ghost use Rattle.closure.specs.Tables.{table_of, table_at, spans_left, table_left, ArcsAsk, ArcAsks, Tighter, SpreadAsks, Spread};
+ghost use Rattle.closure.specs.Tables.{table, ArcsAsk, ArcAsks, Tighter, SpreadAsks, Spread};
 
 use crate::table::{close_round, narrow, widen};
 use network::rule::entry;
@@ -15,8 +15,8 @@ fn add_arc(
     gaps: &[u32],
     arc: usize,
 ) -> u32
-    requires { ArcAsks (reduced periods.now bars.now m) (table_of lows widths gaps) arc }
-    ensures { Tighter (Fitting (reduced_at periods bars m)) periods.now (table_at lows widths gaps) (spans_left lows widths gaps) result }
+    requires { ArcAsks (reduced periods.now bars.now m) (table lows.old widths.old gaps.now) arc }
+    ensures { Tighter (Fitting (reduced_at periods bars m)) periods.now (table lows.old widths.old gaps.now) (table lows.new widths.new gaps.now) result }
 {
     let at = 5 * arc;
     let run = bars[at + 3];
@@ -42,8 +42,8 @@ fn add_arcs(
     widths: &mut [u32],
     gaps: &[u32],
 ) -> u32
-    requires { ArcsAsk (reduced periods.now bars.now m) (table_of lows widths gaps) }
-    ensures { Tighter (Fitting (reduced_at periods bars m)) periods.now (table_at lows widths gaps) (spans_left lows widths gaps) result }
+    requires { ArcsAsk (reduced periods.now bars.now m) (table lows.old widths.old gaps.now) }
+    ensures { Tighter (Fitting (reduced_at periods bars m)) periods.now (table lows.old widths.old gaps.now) (table lows.new widths.new gaps.now) result }
 {
     let mut arc = 0;
     while arc < m {
@@ -65,8 +65,8 @@ fn whole_round(
     widths: &mut [u32],
     gaps: &[u32],
 ) -> u32
-    requires { ArcsAsk (reduced periods.now bars.now m) (table_of lows widths gaps) }
-    ensures { Tighter (Fitting (reduced_at periods bars m)) periods.now (table_at lows widths gaps) (spans_left lows widths gaps) result }
+    requires { ArcsAsk (reduced periods.now bars.now m) (table lows.old widths.old gaps.now) }
+    ensures { Tighter (Fitting (reduced_at periods bars m)) periods.now (table lows.old widths.old gaps.now) (table lows.new widths.new gaps.now) result }
 {
     let left = add_arcs(periods, bars, m, lows, widths, gaps);
     if left == 0 {
@@ -84,8 +84,8 @@ fn close(
     widths: &mut [u32],
     gaps: &[u32],
 ) -> u32
-    requires { ArcsAsk (reduced periods.now bars.now m) (table_of lows widths gaps) }
-    ensures { Tighter (Fitting (reduced_at periods bars m)) periods.now (table_at lows widths gaps) (spans_left lows widths gaps) result }
+    requires { ArcsAsk (reduced periods.now bars.now m) (table lows.old widths.old gaps.now) }
+    ensures { Tighter (Fitting (reduced_at periods bars m)) periods.now (table lows.old widths.old gaps.now) (table lows.new widths.new gaps.now) result }
 {
     let mut round: u32 = 1;
     while round <= 64 {
@@ -110,8 +110,8 @@ pub fn spread(
     widths: &mut [u32],
     gaps: &mut [u32],
 ) -> u32
-    requires { SpreadAsks (reduced periods.now bars.now m) (table_of lows widths gaps) }
-    ensures { Spread (reduced_at periods bars m) (table_left lows widths gaps) result }
+    requires { SpreadAsks (reduced periods.now bars.now m) (table lows.old widths.old gaps.old) }
+    ensures { Spread (reduced_at periods bars m) (table lows.new widths.new gaps.new) result }
 {
     widen(periods, lows, widths, gaps);
     close(periods, bars, m, lows, widths, &gaps[..])

@@ -1,9 +1,11 @@
 // The smallest feasible timetable of a network, or that there is none. Before the search comes the closure: for each two events the span that holds the
 // difference of their times in every fitting timetable, cut down through every third event; the search takes the spans as arcs that the network implies.
+#![tactic(auto)]
+
 ghost use Rattle.std.specs.Prelude.{◌≡◌, length};
 ghost use Rattle.network.specs.Network.{net_of, net_at};
 ghost use Rattle.search.specs.Looked.{Looked, Asked};
-ghost use Rattle.closure.specs.Tables.{table_of};
+ghost use Rattle.closure.specs.Tables.{table};
 ghost use Rattle.closure.specs.Longer.{Lent, LengthenAsks, Lengthened};
 
 mod arcs;
@@ -40,7 +42,7 @@ fn extend(
     gaps: &mut [u32],
     longer: &mut [u32],
 ) -> Closed
-    requires { Lent (net_of periods tail head lower upper weight) bars.old (table_of lows widths gaps) longer.old }
+    requires { Lent (net_of periods tail head lower upper weight) bars.old (table lows.old widths.old gaps.old) longer.old }
     ensures { Lengthened (net_at periods tail head lower upper weight) longer.new result }
 {
     let m = tail.len();

@@ -1,7 +1,7 @@
 // The longer network: for each event, the spans to later ones as arcs, and then the network's own arcs to later ones. All arcs are sorted by their earlier
 // end, so that an event's time is ruled out first by the arc to the earliest event that does so, and a failed placing blames the earliest.
 ghost use Rattle.search.specs.Reduced.{reduced, reduced_at};
-ghost use Rattle.closure.specs.Tables.{table_of};
+ghost use Rattle.closure.specs.Tables.{table};
 ghost use Rattle.closure.specs.Longer.{PairAsks, RowAsks, Grows, PickAsks, Picks, OwnAsks, Picked, AppendAsks, Whole};
 
 use network::rule::entry;
@@ -22,7 +22,7 @@ fn append(
     own: usize,
     count: usize,
 ) -> usize
-    requires { PairAsks (reduced periods.now bars.now m) (table_of lows widths gaps) longer.old i j own count }
+    requires { PairAsks (reduced periods.now bars.now m) (table lows.now widths.now gaps.now) longer.old i j own count }
     ensures { Grows (reduced_at periods bars m) longer.new i own result }
 {
     // 64 events have no more pairs: this test stands in place of a proof that counts them.
@@ -61,7 +61,7 @@ fn append_row(
     own: usize,
     first: usize,
 ) -> usize
-    requires { RowAsks (reduced periods.now bars.now m) (table_of lows widths gaps) longer.old i own first }
+    requires { RowAsks (reduced periods.now bars.now m) (table lows.now widths.now gaps.now) longer.old i own first }
     ensures { Grows (reduced_at periods bars m) longer.new i own result }
 {
     let mut count = first;
@@ -127,7 +127,7 @@ pub fn append_all(
     gaps: &[u32],
     longer: &mut [u32],
 ) -> usize
-    requires { AppendAsks (reduced periods.now bars.now m) (table_of lows widths gaps) longer.old }
+    requires { AppendAsks (reduced periods.now bars.now m) (table lows.now widths.now gaps.now) longer.old }
     ensures { Whole (reduced_at periods bars m) longer.new result }
 {
     let mut own = 0;

@@ -2,7 +2,7 @@
 ghost use Rattle.std.specs.Prelude.{◌≡◌, ◌+◌, ◌%◌, ◌<◌, max};
 ghost use Rattle.numbers.specs.Divisor.{IsGcd};
 ghost use Rattle.numbers.specs.Row.{at};
-ghost use Rattle.closure.specs.Tables.{table_of, table_at, table_left, spans_left, OpenAsks, GapAsks, WidenAsks, Widening, Opened};
+ghost use Rattle.closure.specs.Tables.{table, OpenAsks, GapAsks, WidenAsks, Widening, Opened};
 ghost use Rattle.closure.specs.Tables.{NarrowAsks, Narrowed, Timed, Tighter, Shaped, Through, Pair, Three};
 
 use crate::cut::{cut, turned};
@@ -27,8 +27,8 @@ fn gap_of(periods: &[u32], gaps: &[u32], i: usize, j: usize) -> u32
 
 // Gives event i and each other their gap, and a span that holds every difference.
 fn widen_row(periods: &[u32], lows: &mut [u32], widths: &mut [u32], gaps: &mut [u32], i: usize)
-    requires { WidenAsks periods.now (table_of lows widths gaps) i }
-    ensures { Widening periods.now (table_left lows widths gaps) (i + 1) 0 }
+    requires { WidenAsks periods.now (table lows.old widths.old gaps.old) i }
+    ensures { Widening periods.now (table lows.new widths.new gaps.new) (i + 1) 0 }
 {
     let mut j = 0;
     while j < periods.len() {
@@ -43,8 +43,8 @@ fn widen_row(periods: &[u32], lows: &mut [u32], widths: &mut [u32], gaps: &mut [
 
 // Gives each two events theirs.
 pub fn widen(periods: &[u32], lows: &mut [u32], widths: &mut [u32], gaps: &mut [u32])
-    requires { OpenAsks periods.now (table_of lows widths gaps) }
-    ensures { Opened periods.now (table_left lows widths gaps) }
+    requires { OpenAsks periods.now (table lows.old widths.old gaps.old) }
+    ensures { Opened periods.now (table lows.new widths.new gaps.new) }
 {
     let mut i = 0;
     while i < periods.len() {
@@ -63,8 +63,8 @@ pub fn narrow(
     low: u32,
     width: u32,
 ) -> u32
-    requires { NarrowAsks (table_of lows widths gaps) i j low width }
-    ensures { Narrowed (table_at lows widths gaps) i j low width (spans_left lows widths gaps) result }
+    requires { NarrowAsks (table lows.old widths.old gaps.now) i j low width }
+    ensures { Narrowed (table lows.old widths.old gaps.now) i j low width (table lows.new widths.new gaps.now) result }
 {
     let there = 64 * i + j;
     let back = 64 * j + i;
@@ -105,8 +105,8 @@ fn via(
     k: usize,
     j: usize,
 ) -> u32
-    requires { Three periods.now (table_of lows widths gaps) i k j }
-    ensures { Tighter (Timed periods.now) periods.now (table_at lows widths gaps) (spans_left lows widths gaps) result }
+    requires { Three periods.now (table lows.old widths.old gaps.now) i k j }
+    ensures { Tighter (Timed periods.now) periods.now (table lows.old widths.old gaps.now) (table lows.new widths.new gaps.now) result }
 {
     let first = 64 * i + k;
     let second = 64 * k + j;
@@ -131,8 +131,8 @@ fn close_row(
     i: usize,
     k: usize,
 ) -> u32
-    requires { Pair periods.now (table_of lows widths gaps) i k }
-    ensures { Tighter (Timed periods.now) periods.now (table_at lows widths gaps) (spans_left lows widths gaps) result }
+    requires { Pair periods.now (table lows.old widths.old gaps.now) i k }
+    ensures { Tighter (Timed periods.now) periods.now (table lows.old widths.old gaps.now) (table lows.new widths.new gaps.now) result }
 {
     let mut status: u32 = 1;
     let mut j = i + 1;
@@ -155,8 +155,8 @@ fn close_through(
     gaps: &[u32],
     k: usize,
 ) -> u32
-    requires { Through periods.now (table_of lows widths gaps) k }
-    ensures { Tighter (Timed periods.now) periods.now (table_at lows widths gaps) (spans_left lows widths gaps) result }
+    requires { Through periods.now (table lows.old widths.old gaps.now) k }
+    ensures { Tighter (Timed periods.now) periods.now (table lows.old widths.old gaps.now) (table lows.new widths.new gaps.now) result }
 {
     let mut status: u32 = 1;
     let mut i = 0;
@@ -173,8 +173,8 @@ fn close_through(
 
 // Narrows all spans through every event.
 pub fn close_round(periods: &[u32], lows: &mut [u32], widths: &mut [u32], gaps: &[u32]) -> u32
-    requires { Shaped periods.now (table_of lows widths gaps) }
-    ensures { Tighter (Timed periods.now) periods.now (table_at lows widths gaps) (spans_left lows widths gaps) result }
+    requires { Shaped periods.now (table lows.old widths.old gaps.now) }
+    ensures { Tighter (Timed periods.now) periods.now (table lows.old widths.old gaps.now) (table lows.new widths.new gaps.now) result }
 {
     let mut status: u32 = 1;
     let mut k = 0;

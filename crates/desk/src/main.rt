@@ -1,7 +1,9 @@
 // Solves network A of the scope paper and prints its timetable, its tensions with their slacks, and its cost.
+#![tactic(auto)]
+
 ghost use Rattle.std.specs.Prelude.{◌≡◌, length};
 
-use libc::STDOUT_FILENO;
+use std::io;
 
 const PERIODS: [u32; 3] = [60, 60, 60];
 
@@ -15,48 +17,33 @@ const UPPER: [i32; 3] = [15, 25, 30];
 
 const WEIGHT: [u32; 3] = [3, 1, 2];
 
-// Writes a number, with a minus where it is below zero.
-fn print_signed(n: i64) {
-    if n < 0 {
-        io::write_all(STDOUT_FILENO, b"-");
-        io::print_decimal(STDOUT_FILENO, ((-1 - n) as u64) + 1);
-        return;
-    }
-    io::print_decimal(STDOUT_FILENO, n as u64);
-}
-
 // Writes a line for each event: its number and its time.
-fn print_times(times: &[u32]) {
-    io::write_all(STDOUT_FILENO, b"event,time\n");
-    for event in 0..times.len() {
-        io::print_decimal(STDOUT_FILENO, event as u64);
-        io::write_all(STDOUT_FILENO, b",");
-        io::print_decimal(STDOUT_FILENO, times[event] as u64);
-        io::write_all(STDOUT_FILENO, b"\n");
+fn print_times(rt: &impl Print, times: &[u32]) -> io::Result<()> {
+    println!(rt; "event,time")?;
+    for (event, time) in times.iter().enumerate() {
+        println!(rt; "{event},{time}")?;
     }
+    Ok(())
 }
 
 // Writes a line for an arc: its number, its tension, and its slack, which is the tension less the lower bound.
-fn print_arc(arc: usize, tension: i32, lower: i32) {
-    io::print_decimal(STDOUT_FILENO, arc as u64);
-    io::write_all(STDOUT_FILENO, b",");
-    print_signed(tension as i64);
-    io::write_all(STDOUT_FILENO, b",");
-    print_signed((tension as i64) - (lower as i64));
-    io::write_all(STDOUT_FILENO, b"\n");
+fn print_arc(rt: &impl Print, arc: usize, tension: i32, lower: i32) -> io::Result<()> {
+    let slack = i64::from(tension) - i64::from(lower);
+    println!(rt; "{arc},{tension},{slack}")
 }
 
 // Writes a line for each arc.
-fn print_arcs(tensions: &[i32], lower: &[i32])
+fn print_arcs(rt: &impl Print, tensions: &[i32], lower: &[i32]) -> io::Result<()>
     requires { length lower.now ≡ length tensions.now }
 {
-    io::write_all(STDOUT_FILENO, b"arc,tension,slack\n");
+    println!(rt; "arc,tension,slack")?;
     for arc in 0..tensions.len() {
-        print_arc(arc, tensions[arc], lower[arc]);
+        print_arc(rt, arc, tensions[arc], lower[arc])?;
     }
+    Ok(())
 }
 
-fn main() {
+fn main(rt: HostRuntime) -> io::Result<()> {
     let mut times = [0u32; 3];
     let mut tensions = [0i32; 3];
     let mut turns = [0i32; 3];
@@ -71,9 +58,8 @@ fn main() {
         &mut tensions,
         &mut turns,
     );
-    print_times(&times);
-    print_arcs(&tensions, &LOWER);
-    io::write_all(STDOUT_FILENO, b"cost\n");
-    io::print_decimal(STDOUT_FILENO, answer.cost);
-    io::write_all(STDOUT_FILENO, b"\n");
+    print_times(&rt, &times)?;
+    print_arcs(&rt, &tensions, &LOWER)?;
+    println!(rt; "cost")?;
+    println!(rt; "{}", answer.cost)
 }

@@ -1,4 +1,6 @@
 // What the closure makes of a network, exported for the tests: no contract says how strong the closure is, so they hold it to numbers that are known.
+#![tactic(auto)]
+
 ghost use Rattle.network.specs.Network.{net_at};
 ghost use Rattle.gauge.specs.Gauge.{Shows};
 

@@ -26,12 +26,12 @@ use Rattle.network.proofs.Width.{narrow, width_below, slack-below}
 
 -- a signed result of a call is passed on as it is
 pub kept : {z : ℤ} → mag z < 2147483648 → to_z w32 (of_z w32 z) ≡ z
-kept {z} h = (of {z = z} (record { sfits = h })).is
+kept {z} h = (of {w = w32} {z = z} (record { sfits = h })).is
 
 -- and so is head time less tail time less lower, the lower bound having been handed on itself
 pub beyond_kept : {z low : ℤ} (from to : ℕ) → mag z < 9223372036854775808 → SFits w32 low → z ≡ (pos to -ℤ pos from) -ℤ to_z w32 (of_z w32 low)
     → to_z w64 (of_z w64 z) ≡ (pos to -ℤ pos from) -ℤ low
-beyond_kept {z} from to h f e = (of {z = z} (record { sfits = h })).is ∙ e ∙ ap (λ (l : ℤ). (pos to -ℤ pos from) -ℤ l) (of f).is
+beyond_kept {z} from to h f e = (of {w = w64} {z = z} (record { sfits = h })).is ∙ e ∙ ap (λ (l : ℤ). (pos to -ℤ pos from) -ℤ l) (of f).is
 
 -- weight times slack is small
 pub product_small : {w s : ℕ} → w ≤ 10000 → s < 3600 → w * s ≤ 36000000

@@ -131,7 +131,8 @@ unfolding answer_of coded
 quiet [] x k e = none
 quiet (r ∷ rs) x k e = go (ltb (place_of r) r.places) refl e (quiet rs x (and_right (ltb 0 r.code) (coded rs) k))
   where
-    go : (b : Bool) → ltb (place_of r) r.places ≡ b → (cond b (answer r.code (place_of r) 0) (answer_of rs x)).code ≡ 0 → ((answer_of rs x).code ≡ 0 → AllClear rs) → AllClear (r ∷ rs)
+    go : (b : Bool) → ltb (place_of r) r.places ≡ b → (cond b (answer r.code (place_of r) 0) (answer_of rs x)).code ≡ 0
+        → ((answer_of rs x).code ≡ 0 → AllClear rs) → AllClear (r ∷ rs)
     go true q e s = absurd (omega (arith, ltb-true 0 r.code (and_left (ltb 0 r.code) (coded rs) k)))
     go false q e s = more (clear_of (first_is r.applies r.places) (ltb-false (place_of r) r.places q)) (s e)
 

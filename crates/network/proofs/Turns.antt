@@ -1,7 +1,7 @@
 -- The turn of an arc: the only whole number that its equation allows, and a small one. Assumes nothing.
 use mathlib.Core.Path.{◌≡◌, sym, ap, ◌∙◌}
 use mathlib.Core.List.{List}
-use Prim.Native.Nat.{ℕ, ◌+◌, ◌*◌, ◌≤◌, ◌<◌}
+use Prim.Native.Nat.{ℕ, ◌*◌, ◌≤◌, ◌<◌}
 use native.Mathlib.Omega.{arith}
 use lib.IntN.{ℤ, pos, nat_abs, ◌+ℤ◌, ◌-ℤ◌, ◌*ℤ◌}
 use Rattle.numbers.proofs.Integers.{eq_ℤ, abs_ℤ, of_eq, of_sum, of_sub, of_abs, up_times, dn_times}

@@ -24,10 +24,6 @@ abbrev pub net_at : {A B C D E F : Type 0} → Both (Bor (List ℕ)) A → Both 
     → Both (Bor (List ℤ)) E → Both (Bor (List ℕ)) F → Network
 net_at p t h l u w = net_of p.entry t.entry h.entry l.entry u.entry w.entry
 
-abbrev pub net_left : {A B C D E F : Type 0} → Both A (Bor (List ℕ)) → Both B (Bor (List ℕ)) → Both C (Bor (List ℕ)) → Both D (Bor (List ℤ))
-    → Both E (Bor (List ℤ)) → Both F (Bor (List ℕ)) → Network
-net_left p t h l u w = net_of p.exit t.exit h.exit l.exit u.exit w.exit
-
 -- n, the number of events, and m, the number of arcs
 abbrev pub events : Network → ℕ
 events N = length N.periods

@@ -1,6 +1,6 @@
 -- What is read from and written to a lent row. Definitions alone.
 use Rattle.std.specs.Prelude.{List, Bool, not, ◌||◌, ℕ, zero, suc, length, set, ℤ, leb, ltb}
-use Rattle.std.specs.Borrow.{Bor}
+use Rattle.std.specs.Borrow.{MutBor}
 use denote.Triple.Both.{Both}
 use Rattle.network.specs.Network.{Network, arcs, lower}
 use Rattle.numbers.specs.Row.{at, at_ℤ}
@@ -37,14 +37,14 @@ pub record ArcRows : Type 0 where
 abbrev pub arc_rows : List ℤ → List ℤ → ArcRows
 arc_rows x z = record { tensions = x; turns = z }
 
-abbrev pub arc_rows_of : Bor (List ℤ) → Bor (List ℤ) → ArcRows
+abbrev pub arc_rows_of : MutBor (List ℤ) → MutBor (List ℤ) → ArcRows
 arc_rows_of x z = arc_rows x.now z.now
 
 -- of two parameters of a call: as they are lent, and as the call leaves them
-abbrev pub arc_rows_at : {A B : Type 0} → Both (Bor (List ℤ)) A → Both (Bor (List ℤ)) B → ArcRows
+abbrev pub arc_rows_at : {A B : Type 0} → Both (MutBor (List ℤ)) A → Both (MutBor (List ℤ)) B → ArcRows
 arc_rows_at x z = arc_rows_of x.entry z.entry
 
-abbrev pub arc_rows_left : {A B : Type 0} → Both A (Bor (List ℤ)) → Both B (Bor (List ℤ)) → ArcRows
+abbrev pub arc_rows_left : {A B : Type 0} → Both A (MutBor (List ℤ)) → Both B (MutBor (List ℤ)) → ArcRows
 arc_rows_left x z = arc_rows_of x.exit z.exit
 
 -- of tensions and turns of these lengths, one has too few entries for m arcs

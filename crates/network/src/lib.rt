@@ -1,4 +1,6 @@
 // A network lent as six rows: the public rule at one arc and over all, and the first refusal of the table.
+#![tactic(auto)]
+
 ghost use Rattle.std.specs.Prelude.{◌≡◌, ◌<◌};
 ghost use Rattle.network.specs.Refusals.{answer, filled};
 

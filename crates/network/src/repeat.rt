@@ -11,6 +11,7 @@ ghost use Rattle.network.specs.Pairs.{AsksWidth, TwoArcs, same_rule, Chained, As
 use crate::rule::{arc_period, bound, entry, width, working};
 
 // What a lower bound leaves by g, counted from -7,200, the least that there is: no number is then below zero, and the machine's remainder serves.
+#[tactic(auto, unfolding(numbers::specs::Remainder::remainder))]
 fn offset(g: u32, low: i32) -> u32
     requires { (0 < g) × (nat_abs low ≤ 7200) }
     ensures { result ≡ remainder (low +ℤ pos 7200) g }
@@ -27,6 +28,7 @@ fn working_width(g: u32, low: i32, high: i32) -> u32
 }
 
 // Has arc a the head of arc b, and by the period g this offset and this width?
+#[tactic(auto, unfolding(crate::specs::Pairs::same_rule))]
 fn same_rule(
     head: &[u32],
     lower: &[i32],

@@ -12,6 +12,7 @@ use crate::rule::{bound, entry, outside_signed};
 const ORDER: [u32; 9] = [1, 2, 3, 4, 5, 6, 7, 8, 18];
 
 // Is x below the least or above the greatest?
+#[tactic(auto, unfolding(crate::specs::Table::outside))]
 pub fn outside(least: usize, greatest: usize, x: usize) -> bool
     ensures { result ≡ outsideOf least greatest x }
 {
@@ -22,6 +23,7 @@ pub fn outside(least: usize, greatest: usize, x: usize) -> bool
 }
 
 // Do the arc rows differ in length, or are there too many arcs?
+#[tactic(auto, unfolding(crate::specs::Table::uneven))]
 pub fn uneven(
     m: usize,
     heads: usize,
@@ -51,6 +53,7 @@ pub fn uneven(
 }
 
 // Is an end n or more?
+#[tactic(auto, unfolding(crate::specs::Table::strays))]
 fn strays(n: usize, from: usize, to: usize) -> bool
     ensures { result ≡ straysOf n from to }
 {
@@ -61,6 +64,7 @@ fn strays(n: usize, from: usize, to: usize) -> bool
 }
 
 // How many places a code is tried at: each event, once, each arc.
+#[tactic(auto, unfolding(crate::specs::Trial::places_of))]
 fn places(code: u32, n: usize, m: usize) -> usize
     ensures { result ≡ places_of code n m }
 {

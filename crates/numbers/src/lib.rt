@@ -1,4 +1,6 @@
 // Whole numbers: the greatest common divisor, the signed difference, the remainder that is never negative and its quotient.
+#![tactic(auto)]
+
 ghost use Rattle.std.specs.Prelude.{◌≡◌, ◌<◌, pos, ◌-ℤ◌};
 ghost use Rattle.numbers.specs.Divisor.{IsGcd};
 ghost use Rattle.numbers.specs.Remainder.{IsRemainder, IsQuotient};

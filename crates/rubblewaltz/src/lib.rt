@@ -1,5 +1,7 @@
 // The public calls, exported to C: each passes its rows on, and carries the contract of the call behind it.
-ghost use Rattle.network.specs.Network.{net_at, net_left};
+#![tactic(auto)]
+
+ghost use Rattle.network.specs.Network.{net, net_at};
 ghost use Rattle.network.specs.Rows.{arc_rows_at, arc_rows_left};
 ghost use Rattle.timetable.specs.Check.{Checked};
 ghost use Rattle.timetable.specs.Measure.{Measured};
@@ -90,7 +92,8 @@ pub extern "C" fn rubblewaltz_read(
     upper: &mut [i32],
     weight: &mut [u32],
 ) -> Filled
-    ensures { Read events.now arcs.now (net_at periods tail head lower upper weight) (net_left periods tail head lower upper weight) result }
+    ensures { Read events.now arcs.now (net periods.old tail.old head.old lower.old upper.old weight.old)
+        (net periods.new tail.new head.new lower.new upper.new weight.new) result }
 {
     timetable::read_text::read_text(events, arcs, periods, tail, head, lower, upper, weight)
 }

@@ -20,7 +20,8 @@ use Rattle.numbers.proofs.Remainders.{remainder_only, same-remainder, mod_cong}
 use Rattle.network.proofs.Scans.{true_false}
 use Rattle.search.specs.Reduced.{near_in, last_in, shift_in, run_in, gap_in, past, met_at}
 use Rattle.search.specs.Threads.{Following}
-use Rattle.search.specs.Marks.{mark, Told, RunMarked, RunTurn, RunsAsk, RunsMarked, RunsTurn, ArcAsks, ArcMarked, Grown, Cleared, Clearing, Joined, Joining, EventAsks, Ruled, EventMarked, EventTurn, FirstFree, SomeFree, Walk}
+use Rattle.search.specs.Marks.{mark, Told, RunMarked, RunTurn, RunsAsk, RunsMarked, RunsTurn, ArcAsks, ArcMarked, Grown, Cleared, Clearing}
+use Rattle.search.specs.Marks.{Joined, Joining, EventAsks, Ruled, EventMarked, EventTurn, FirstFree, SomeFree, Walk}
 
 -- ---- whether a mark is new
 

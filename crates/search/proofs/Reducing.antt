@@ -76,7 +76,8 @@ module _ {N : Network} {a : ℕ} (s : Sound N) (h : a < arcs N) where
   some = (arc-period N a s h).some
 
   module _ (from to : ℕ) where
-    rising : leb (run_of N a) (past (arc_period N a) (slack_by (arc_period N a) (pos 0 -ℤ working N a) 0 1) from to) ≡ leb (slack_by (arc_period N a) (lower N a) from to) (width_of N a)
+    rising : leb (run_of N a) (past (arc_period N a) (slack_by (arc_period N a) (pos 0 -ℤ working N a) 0 1) from to)
+        ≡ leb (slack_by (arc_period N a) (lower N a) from to) (width_of N a)
     rising =
         let g = arc_period N a in
         let u = working N a in
@@ -88,7 +89,18 @@ module _ {N : Network} {a : ℕ} (s : Sound N) (h : a < arcs N) where
         let q = remainder_cong (d -ℤ l) g some in
         later (width_below N a s h) (remainder-below (d -ℤ l) g some) (remainder-below (d -ℤ pos (slack_by g v 0 1)) g some)
         (cong (dn p.times + dn q.times) (up p.times + up q.times)
-        (omega (arith, parts p, parts q, width_is N a s h, of_sub (pos to) (pos from), of_sub d l, of_sub d e, of_sub (pos 1) (pos 0), of_sub (pos 1 -ℤ pos 0) v, of_sub (pos 0) u)))
+        (omega (
+          arith,
+          parts p,
+          parts q,
+          width_is N a s h,
+          of_sub (pos to) (pos from),
+          of_sub d l,
+          of_sub d e,
+          of_sub (pos 1) (pos 0),
+          of_sub (pos 1 -ℤ pos 0) v,
+          of_sub (pos 0) u,
+        )))
 
     falling : leb (run_of N a) (past (arc_period N a) (slack_by (arc_period N a) (lower N a) 0 1) to from) ≡ leb (slack_by (arc_period N a) (lower N a) from to) (width_of N a)
     falling =
@@ -108,7 +120,8 @@ module _ {N : Network} {a : ℕ} (s : Sound N) (h : a < arcs N) where
   met_bar t = go (dec_lt (tail N a) (head N a)) ∙ sym (met_width N t a s h)
     where
       go : Dec (tail N a < head N a)
-          → leb (run_of N a) (past (arc_period N a) (shift_of N a) (at t (near_of N a)) (at t (last_of N a))) ≡ leb (slack_by (arc_period N a) (lower N a) (at t (tail N a)) (at t (head N a))) (width_of N a)
+          → leb (run_of N a) (past (arc_period N a) (shift_of N a) (at t (near_of N a)) (at t (last_of N a)))
+          ≡ leb (slack_by (arc_period N a) (lower N a) (at t (tail N a)) (at t (head N a))) (width_of N a)
       go (yes l) =
           let n : near_of N a ≡ tail N a = omega arith in
           let m : last_of N a ≡ head N a = omega arith in

@@ -4,7 +4,7 @@ use Rattle.std.specs.Prelude.{◌≡◌, List, Bool, true, cond, ℕ, zero, suc,
 use Rattle.std.specs.Borrow.{Bor}
 use denote.Triple.Both.{Both}
 use Rattle.numbers.specs.Divisor.{gcd}
-use Rattle.network.specs.Network.{Network, events, arcs, tail, head, lower}
+use Rattle.network.specs.Network.{Network, arcs, tail, head, lower}
 use Rattle.numbers.specs.Row.{at}
 use Rattle.network.specs.PublicRule.{arc_period, slack_by, working, width_of}
 use Rattle.network.specs.Table.{WellFormed}

@@ -1,4 +1,6 @@
 // The smallest timetable that fits a network in unsigned numbers, or that there is none.
+#![tactic(auto)]
+
 ghost use Rattle.search.specs.Reduced.{reduced, reduced_at};
 ghost use Rattle.search.specs.Looked.{Sought, Seeks};
 ghost use Rattle.search.specs.Threads.{Lent};

@@ -3,7 +3,8 @@ use mathlib.Core.Path.{◌≡◌, refl}
 use mathlib.Core.List.{map}
 use Rattle.text.specs.Number.{digits, number, below, plain, valued, signed, last_digits, decimal, decimal_ℤ}
 use Rattle.text.specs.Line.{is_break, on_first, lines, fields, joined, broken}
-use Rattle.text.specs.Text.{and_then, field, end, numbered, event_of, arc_of, event_fields, arc_fields, event_layout, arc_layout, with, judged, records, enough, same, headed, told, record_lines, printed}
+use Rattle.text.specs.Text.{and_then, field, end, numbered, event_of, arc_of, event_fields, arc_fields, event_layout, arc_layout}
+use Rattle.text.specs.Text.{with, judged, records, enough, same, headed, told, record_lines, printed}
 use Rattle.text.specs.Cases.{event_cases, arc_cases, some_periods, as_events, some_arcs, as_arcs}
 
 pub events_tell : map (λ c. told event_layout c.text) event_cases ≡ map (λ c. c.tells) event_cases

@@ -50,7 +50,8 @@ module _ {R : Type 0} (record_of : ℕ → List (List ℕ) → Option R) (most :
         is = λ d. (cons_same (t ∙ drop-cons rs k d inside)).0;
         inside = inside;
         under = u;
-        more = ap (λ (j : ℕ). records record_of most j (lines (drop next text))) (add-one k) ∙ m ∙ ap rows ((cons_same (t ∙ drop-cons rs k r inside)).1 ∙ ap (λ (j : ℕ). drop j rs) (sym (add-one k)));
+        more = ap (λ (j : ℕ). records record_of most j (lines (drop next text))) (add-one k) ∙ m
+            ∙ ap rows ((cons_same (t ∙ drop-cons rs k r inside)).1 ∙ ap (λ (j : ℕ). drop j rs) (sym (add-one k)));
       }
 
   module _ (text : List ℕ) (rs : List R) (at k : ℕ) (so : Filling text rs at k) where

@@ -200,7 +200,11 @@ module _ (a b : List ℕ) (i : ℕ) (so : SameFrom a b i) where
     same_apart d = here ∙ ap (λ (t : Bool). t && same (drop (i + 1) a) (drop (i + 1) b)) (ne_eqb (get_or a i 0) (get_or b i 0) d)
 
     pub same_more : get_or a i 0 ≡ get_or b i 0 → SameFrom a b (i + 1)
-    same_more e = record { long = so.long; within = omega arith; rest = here ∙ ap (λ (t : Bool). t && same (drop (i + 1) a) (drop (i + 1) b)) (eq-eqb (get_or a i 0) (get_or b i 0) e) }
+    same_more e = record {
+      long = so.long;
+      within = omega arith;
+      rest = here ∙ ap (λ (t : Bool). t && same (drop (i + 1) a) (drop (i + 1) b)) (eq-eqb (get_or a i 0) (get_or b i 0) e);
+    }
 
   pub same_all : length a ≤ i → same a b ≡ true
   unfolding same

@@ -81,7 +81,8 @@ last_digits_any (suc j) (suc k) n h i = go (ltb n 10) refl (last_digits_any j k 
     go true e ih = last_digits_few j n (ltb-true n 10 e) ∙ sym (last_digits_few k n (ltb-true n 10 e))
     go false e ih =
         let f : 10 ≤ n = ltb-false n 10 e in
-        last_digits_more j n f ∙ ap (λ (l : List ℕ). l ++ ((48 + n % 10) ∷ [])) (ih (omega (arith, div-add-mod' n 10)) (omega (arith, div-add-mod' n 10))) ∙ sym (last_digits_more k n f)
+        last_digits_more j n f ∙ ap (λ (l : List ℕ). l ++ ((48 + n % 10) ∷ [])) (ih (omega (arith, div-add-mod' n 10)) (omega (arith, div-add-mod' n 10)))
+        ∙ sym (last_digits_more k n f)
 
 pub decimal_few : (n : ℕ) → n < 10 → decimal n ≡ (48 + n) ∷ []
 unfolding decimal
@@ -177,7 +178,8 @@ unfolding last_digits
 first_last zero n h = absurd (omega arith)
 first_last (suc k) n h = go (ltb n 10) refl (first_last k (n / 10))
   where
-    go : (t : Bool) → ltb n 10 ≡ t → (n / 10 < k → 45 < get_or (last_digits k (n / 10)) 0 0) → 45 < get_or (cond t ((48 + n) ∷ []) (last_digits k (n / 10) ++ ((48 + n % 10) ∷ []))) 0 0
+    go : (t : Bool) → ltb n 10 ≡ t → (n / 10 < k → 45 < get_or (last_digits k (n / 10)) 0 0)
+        → 45 < get_or (cond t ((48 + n) ∷ []) (last_digits k (n / 10) ++ ((48 + n % 10) ∷ []))) 0 0
     go true e ih = omega arith
     go false e ih = first-append (last_digits k (n / 10)) (48 + n % 10) (ih (omega (arith, div-add-mod' n 10, ltb-false n 10 e)))
 

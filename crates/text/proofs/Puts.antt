@@ -237,7 +237,8 @@ module _ {R : Type 0} (L : Layout R) (rs : List R) where
   pub line : (k : ℕ) (d : R) → k < length rs → Line k (get_or rs k d)
   unfolding record_lines broken
   line k d h = record {
-    is = ap (λ (xs : List R). printed L xs) (ap (λ (n : ℕ). take n rs) (add-one k) ∙ take-suc rs k d h) ∙ split k (take k rs) (get_or rs k d ∷ []) (length-take-le k rs (omega arith));
+    is = ap (λ (xs : List R). printed L xs) (ap (λ (n : ℕ). take n rs) (add-one k) ∙ take-suc rs k d h)
+        ∙ split k (take k rs) (get_or rs k d ∷ []) (length-take-le k rs (omega arith));
   }
 
   part : (k : ℕ) → length (printed L (take k rs)) ≤ length (printed L rs)

@@ -9,7 +9,7 @@ use lib.Dec.{ltb, eqb}
 use lib.IntN.{ℤ, pos}
 use borrow.Author.Tests.{ltb-true, eq-eqb}
 use Rattle.text.specs.Number.{number, below, plain, signed, valued, minus}
-use Rattle.text.specs.Text.{and_then, field, end, numbered, event_of, arc_of, Arc}
+use Rattle.text.specs.Text.{and_then, field, end, numbered, event_of, arc_of, Arc, arc}
 use Rattle.text.proofs.Numbers.{Holds32, up, down}
 
 -- ---- a field by its rule
@@ -123,7 +123,7 @@ arc_holds k fs a e =
     let l = taken signed _ h.rest h.onward in
     let u = taken signed _ l.rest l.onward in
     let w = taken plain _ u.rest u.onward in
-    subst ArcHolds (end_is _ a w.rest w.onward)
+    subst ArcHolds {x = arc t.value h.value l.value u.value w.value} (end_is (arc t.value h.value l.value u.value w.value) a w.rest w.onward)
     (record {
       tail = plain_is t.text t.value t.read;
       head = plain_is h.text h.value h.read;

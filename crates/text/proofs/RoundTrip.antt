@@ -10,7 +10,8 @@ use lib.ListN.{length}
 use borrow.Author.Tests.{ltb-true, lt-ltb, le-ltb, eq-eqb}
 use Rattle.text.specs.Number.{plain, signed, decimal, decimal_ℤ}
 use Rattle.text.specs.Line.{lines, fields, joined}
-use Rattle.text.specs.Text.{field, end, Arc, event_of, arc_of, event_fields, arc_fields, Layout, event_layout, arc_layout, Told, rows, wrong_header, bad_record, with, judged, records, enough, same, headed, told, record_lines, printed}
+use Rattle.text.specs.Text.{field, end, Arc, event_of, arc_of, event_fields, arc_fields, Layout, event_layout, arc_layout}
+use Rattle.text.specs.Text.{Told, rows, wrong_header, bad_record, with, judged, records, enough, same, headed, told, record_lines, printed}
 use Rattle.text.proofs.Each.{Each, nil, one, each_append, each_map, Above, AboveBreak}
 use Rattle.text.proofs.Numbers.{decimal_above, decimal_ℤ_above, plain-decimal, signed_decimal}
 use Rattle.text.proofs.Lines.{lines-broken, fields-joined}

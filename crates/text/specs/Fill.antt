@@ -1,6 +1,6 @@
 -- Rows that are filled from an accepted text: its records in order, and the old entries beyond them. Definitions alone.
 use Rattle.std.specs.Prelude.{◌≡◌, List, [], ◌++◌, map, ℕ, ◌≤◌, ℤ, length, drop}
-use Rattle.std.specs.Borrow.{Bor}
+use Rattle.std.specs.Borrow.{MutBor}
 use denote.Triple.Both.{Both}
 use Rattle.text.specs.Text.{Layout, Arc, arc_layout, Told, rows, wrong_header, bad_record, told}
 
@@ -54,8 +54,8 @@ pub record ArcsFilled (rs : List Arc) (t h : List ℕ) (l u : List ℤ) (w : Lis
   pub weights : w' ≡ onto (weights_of rs) w
 
 -- of the parameters of the call
-abbrev pub ArcsFilledBy : List Arc → Both (Bor (List ℕ)) (Bor (List ℕ)) → Both (Bor (List ℕ)) (Bor (List ℕ)) → Both (Bor (List ℤ)) (Bor (List ℤ))
-    → Both (Bor (List ℤ)) (Bor (List ℤ)) → Both (Bor (List ℕ)) (Bor (List ℕ)) → Type 0
+abbrev pub ArcsFilledBy : List Arc → Both (MutBor (List ℕ)) (MutBor (List ℕ)) → Both (MutBor (List ℕ)) (MutBor (List ℕ)) → Both (MutBor (List ℤ)) (MutBor (List ℤ))
+    → Both (MutBor (List ℤ)) (MutBor (List ℤ)) → Both (MutBor (List ℕ)) (MutBor (List ℕ)) → Type 0
 ArcsFilledBy rs t h l u w =
     ArcsFilled rs t.entry.now h.entry.now l.entry.now u.entry.now w.entry.now
     t.exit.now h.exit.now l.exit.now u.exit.now w.exit.now

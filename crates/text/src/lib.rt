@@ -1,4 +1,6 @@
 // The office's two texts: read record by record through a reader, and printed.
+#![tactic(auto)]
+
 pub mod cursor;
 pub mod fields;
 pub mod fill;

@@ -7,7 +7,7 @@ use native.Mathlib.Omega.{arith}
 use lib.IntN.{ℤ}
 use lib.ListN.{length}
 use Rattle.network.specs.declared.Answer.{Answer}
-use Rattle.network.specs.Network.{Network, events}
+use Rattle.network.specs.Network.{Network}
 use Rattle.network.specs.PublicRule.{cost_of, Timetable}
 use Rattle.network.specs.Refusals.{Refusal, answer, answer_of}
 use Rattle.network.specs.Table.{refusals, refusals_with, WellFormed}

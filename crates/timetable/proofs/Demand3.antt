@@ -7,7 +7,7 @@ use native.Mathlib.Omega.{arith}
 use lib.IntN.{ℤ, pos}
 use lib.ListN.{length}
 use lib.Seq.{ext_get_or}
-use Rattle.numbers.specs.Row.{at, at_ℤ}
+use Rattle.numbers.specs.Row.{at}
 use Rattle.network.specs.declared.Answer.{Answer}
 use Rattle.network.specs.Network.{Network, events, arcs}
 use Rattle.network.specs.PublicRule.{tension}

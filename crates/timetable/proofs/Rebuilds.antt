@@ -58,7 +58,8 @@ module _ (N : Network) (x : List ℤ) (times : List ℕ) where
             within = λ b l. g.before b (omega arith);
           }
 
-pub rebuilt_refused : {N : Network} {x : List ℤ} {times : List ℕ} {r : Answer} {c p : ℕ} → 0 < c → r ≡ answer c p 0 → answer c p 0 ≡ rebuild_judged N x times → Rebuilt N x times times r
+pub rebuilt_refused : {N : Network} {x : List ℤ} {times : List ℕ} {r : Answer} {c p : ℕ} → 0 < c → r ≡ answer c p 0
+    → answer c p 0 ≡ rebuild_judged N x times → Rebuilt N x times times r
 rebuilt_refused h e a = refused (λ z. omega (arith, ap (λ (q : Answer). q.code) e)) (e ∙ a) refl
 
 -- nothing refuses exactly where the rows are a sheet and have room

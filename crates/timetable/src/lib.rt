@@ -1,4 +1,6 @@
 // The public calls, a module for each. None asks anything of its caller.
+#![tactic(auto)]
+
 pub mod check;
 pub mod measure;
 pub mod print_text;

@@ -1,11 +1,12 @@
 // Read: a network from the office's two texts.
 ghost use Rattle.std.specs.Prelude.{◌≡◌};
-ghost use Rattle.network.specs.Network.{net_at, net_left};
+ghost use Rattle.network.specs.Network.{net};
 ghost use Rattle.timetable.specs.ReadText.{Read, cramped as crampedOf};
 
 use network::Filled;
 
 // Is a row below the most entries that a text may have?
+#[tactic(auto, unfolding(crate::specs::ReadText::cramped))]
 fn cramped(
     periods: usize,
     tails: usize,
@@ -45,7 +46,8 @@ pub fn read_text(
     upper: &mut [i32],
     weight: &mut [u32],
 ) -> Filled
-    ensures { Read events.now arcs.now (net_at periods tail head lower upper weight) (net_left periods tail head lower upper weight) result }
+    ensures { Read events.now arcs.now (net periods.old tail.old head.old lower.old upper.old weight.old)
+        (net periods.new tail.new head.new lower.new upper.new weight.new) result }
 {
     if cramped(
         periods.len(),

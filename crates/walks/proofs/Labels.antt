@@ -62,7 +62,8 @@ balanced x z y = (
 le_more : (k : ℕ) → k ≤ k + 1
 le_more k = omega arith
 
-module _ {G : Graph} {te : ℕ → ℤ} {T n k : ℕ} {label time : ℕ → ℕ} (E : Between G n (k + 1)) (L : Labelled G te T n k label time) (one-part : label (G.tail k) ≡ label (G.head k)) where
+module _ {G : Graph} {te : ℕ → ℤ} {T n k : ℕ} {label time : ℕ → ℕ} (E : Between G n (k + 1)) (L : Labelled G te T n k label time)
+    (one-part : label (G.tail k) ≡ label (G.head k)) where
   -- the closed walk through the arc: from the label to its tail, along it, and back from its head
   around : Reach G te T (k + 1) (label (G.tail k)) (label (G.tail k)) ((pos (time (G.tail k)) +ℤ te k) -ℤ pos (time (G.head k)))
   around =
@@ -119,11 +120,11 @@ module _ {G : Graph} {te : ℕ → ℤ} {T n : ℕ} {label time label' time' : �
 
   low' : (v : ℕ) (h : v < n) → Dec (label v ≡ label (stop G e)) → label' v ≤ v
   low' v h (yes q) = omega (arith, S.moved_label v h q, L.low v h)
-  low' v h (no q) = omega (arith, S.Kept-label v h q, L.low v h)
+  low' v h (no q) = omega (arith, S.kept_label v h q, L.low v h)
 
   base' : (v : ℕ) (h : v < n) → label' v ≡ v → Dec (label v ≡ label (stop G e)) → time' v ≡ 0
   base' v h z (yes q) = omega (arith, S.moved_label v h q, L.low v h)
-  base' v h z (no q) = S.kept_time v h q ∙ L.base v h (sym (S.Kept-label v h q) ∙ z)
+  base' v h z (no q) = S.kept_time v h q ∙ L.base v h (sym (S.kept_label v h q) ∙ z)
 
   under' : (v : ℕ) (h : v < n) → Dec (label v ≡ label (stop G e)) → time' v < T
   under' v h (yes q) = S.moved_under v h q
@@ -145,7 +146,7 @@ module _ {G : Graph} {te : ℕ → ℤ} {T n : ℕ} {label time label' time' : �
       (reach_cong (cong_trans (cong_eq T (omega (arith, zed, of_sum s x, of_sum x s))) (cong_sym (S.moved_time v h q)))
       (reach_join through (reach_from q (more (L.reach v h)))))
   reach' v h (no q) =
-      reach_from (sym (S.Kept-label v h q)) (reach_cong (cong_eq T (ap pos (sym (S.kept_time v h q)))) (more (L.reach v h)))
+      reach_from (sym (S.kept_label v h q)) (reach_cong (cong_eq T (ap pos (sym (S.kept_time v h q)))) (more (L.reach v h)))
 
   tail_in : (a : ℕ) → a < arc e → G.tail a < n
   tail_in a l = E.tail a (omega arith)
@@ -156,7 +157,7 @@ module _ {G : Graph} {te : ℕ → ℤ} {T n : ℕ} {label time label' time' : �
   level' : (a : ℕ) → a < arc e → Dec (label (G.tail a) ≡ label (stop G e)) → label' (G.tail a) ≡ label' (G.head a)
   level' a l (yes q) = S.moved_label (G.tail a) (tail_in a l) q ∙ sym (S.moved_label (G.head a) (head_in a l) (sym (L.level a l) ∙ q))
   level' a l (no q) =
-      S.Kept-label (G.tail a) (tail_in a l) q ∙ L.level a l ∙ sym (S.Kept-label (G.head a) (head_in a l) (λ r. q (L.level a l ∙ r)))
+      S.kept_label (G.tail a) (tail_in a l) q ∙ L.level a l ∙ sym (S.kept_label (G.head a) (head_in a l) (λ r. q (L.level a l ∙ r)))
 
   fits' : (a : ℕ) → a < arc e → Dec (label (G.tail a) ≡ label (stop G e)) → Fits G te T (λ v. pos (time' v)) a
   fits' a l (yes q) =
@@ -174,7 +175,7 @@ module _ {G : Graph} {te : ℕ → ℤ} {T n : ℕ} {label time label' time' : �
       record { apart = cong_trans (L.fits a l).apart (cong_eq T (λ i. pos (sym y i) -ℤ pos (sym x i))) }
 
   level_here : label' (start G e) ≡ label' (stop G e)
-  level_here = S.Kept-label (start G e) start_in start_kept ∙ sym (S.moved_label (stop G e) stop_in refl)
+  level_here = S.kept_label (start G e) start_in start_kept ∙ sym (S.moved_label (stop G e) stop_in refl)
 
   fits_here : Cong T (gain te te e) (pos (time' (stop G e)) -ℤ pos (time' (start G e)))
   fits_here =

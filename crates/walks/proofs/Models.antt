@@ -75,7 +75,10 @@ module _ {G : Graph} {te : ℕ → ℤ} {T n k : ℕ} {ms : List Mark} (h : 0 < 
       → Marked G te T n (k + 1) (map (move T hi lo s) ms)
   moved_right hi lo s f = record {
     events = length-map ms (move T hi lo s) ∙ M.events;
-    labelled = f _ _ (subst (λ (n : ℕ). Shifted T n hi lo (pos s) (labels ms) (times ms) (labels (map (move T hi lo s) ms)) (times (map (move T hi lo s) ms))) M.events (shifted T hi lo s ms h));
+    labelled =
+        f _ _
+        (subst (λ (n : ℕ). Shifted T n hi lo (pos s) (labels ms) (times ms) (labels (map (move T hi lo s) ms)) (times (map (move T hi lo s) ms)))
+        M.events (shifted T hi lo s ms h));
   }
 
   step_right : StepRight G te T n k (step G te T k ms)

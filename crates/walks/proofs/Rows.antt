@@ -81,7 +81,9 @@ one_more : {T v hi lo : ℕ} {s : ℤ} {L P L₁ P₁ L₂ P₂ : ℕ → ℕ} �
 one_more {T} {v} {hi} {lo} {s} {L} {P} {L₁} {P₁} {L₂} {P₂} S l p t = record {
   moved_label = below_more (λ (u : ℕ). L u ≡ hi → L₂ u ≡ lo) v (λ u h e. l u h ∙ S.moved_label u h e) (λ e. (t.moved e).0);
   moved_under = below_more (λ (u : ℕ). L u ≡ hi → P₂ u < T) v (λ u h e. subst (λ (x : ℕ). x < T) (sym (p u h)) (S.moved_under u h e)) (λ e. (t.moved e).1);
-  moved_time = below_more (λ (u : ℕ). L u ≡ hi → Cong T (pos (P₂ u)) (pos (P u) +ℤ s)) v (λ u h e. cong_trans (cong_eq T (ap pos (p u h))) (S.moved_time u h e)) (λ e. (t.moved e).2);
+  moved_time =
+      below_more (λ (u : ℕ). L u ≡ hi → Cong T (pos (P₂ u)) (pos (P u) +ℤ s)) v
+      (λ u h e. cong_trans (cong_eq T (ap pos (p u h))) (S.moved_time u h e)) (λ e. (t.moved e).2);
   kept_label = below_more (λ (u : ℕ). ¬ (L u ≡ hi) → L₂ u ≡ L u) v (λ u h e. l u h ∙ S.kept_label u h e) (λ e. (t.kept e).0);
   kept_time = below_more (λ (u : ℕ). ¬ (L u ≡ hi) → P₂ u ≡ P u) v (λ u h e. p u h ∙ S.kept_time u h e) (λ e. (t.kept e).1);
 }

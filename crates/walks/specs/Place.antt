@@ -1,6 +1,6 @@
 -- What the functions ask and say of their rows. `Given` and `Placed` are the contract of `place_arcs`; what follows them is inner. Definitions alone.
 use Rattle.std.specs.Prelude.{◌≡◌, Bool, true, false, List, ℕ, ◌+◌, ◌≤◌, ◌<◌, ℤ, pos, length}
-use Rattle.std.specs.Borrow.{Bor}
+use Rattle.std.specs.Borrow.{Bor, MutBor}
 use denote.Triple.Both.{Both}
 use Rattle.walks.specs.Walk.{graph_of, Between}
 use Rattle.numbers.specs.Row.{at, at_ℤ}
@@ -32,7 +32,7 @@ pub record Placed (tail head : List ℕ) (tensions : List ℤ) (T : ℕ) (label 
 
 -- of the parameters of the call
 abbrev pub PlacedBy : {A B C : Type 0} → Both (Bor (List ℕ)) A → Both (Bor (List ℕ)) B → Both (Bor (List ℤ)) C → ℕ
-    → Both (Bor (List ℕ)) (Bor (List ℕ)) → Both (Bor (List ℕ)) (Bor (List ℕ)) → ℕ → Type 0
+    → Both (MutBor (List ℕ)) (MutBor (List ℕ)) → Both (MutBor (List ℕ)) (MutBor (List ℕ)) → ℕ → Type 0
 PlacedBy tail head tensions T label times r =
     Placed tail.entry.now head.entry.now tensions.entry.now T label.entry.now times.entry.now label.exit.now times.exit.now r
 

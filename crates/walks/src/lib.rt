@@ -1,4 +1,6 @@
 // Tensions to times: arc after arc joins two parts, or closes a walk and is tested.
+#![tactic(auto)]
+
 ghost use Rattle.std.specs.Prelude.{◌<◌, pos, ◌+ℤ◌, ◌-ℤ◌, length};
 ghost use Rattle.numbers.specs.Remainder.{IsRemainder};
 ghost use Rattle.walks.specs.Place.{Paired, Given, PlacedBy, Begun, Ready, Moved, Placing, Took};

@@ -1,0 +1,16 @@
+-- The number, and then the comma.
+use Rattle.std.proofs.Common.{[], ◌∷◌, List, ℕ, ◌+◌, ◌≤◌, length}
+use Rattle.text.specs.Number.{decimal}
+use Rattle.text.specs.Put.{comma_after}
+use Rattle.text.proofs.Puts.{Room, room_first, room_rest, put_first, put_one}
+use Rattle.text.proofs.print.put_field.Goals as goal
+
+-- there is room for both
+room : (n : ℕ) {at : ℕ} {out : List ℕ} → at + length (comma_after (decimal n)) ≤ length out → Room (decimal n ∷ (44 ∷ []) ∷ []) at out
+room n h = record { fits = h }
+
+pub put_bytes-requires : goal.put_bytes-requires
+put_bytes-requires c = room_first (room_rest (room c.args.n c.requires) c.put_number-end.ensures)
+
+pub returns : goal.returns
+returns c = put_first (room c.args.n c.requires) c.put_number-end.ensures (put_one c.put_bytes.ensures)
