@@ -116,7 +116,7 @@ pub record Lengthened (N : Network) (long : List ℕ) (r : Closed) : Type 0 wher
   pub none : r.rounds ≡ 0 → (u : List ℕ) → Feasible N u → ⊥
   pub some : (r.rounds ≡ 0 → ⊥) → Serves N (reduced N.periods (take (5 * r.arcs) long) r.arcs)
 
--- what it asks: a well_formed network, and room for the longer one
+-- what it asks: a well-formed network, and room for the longer one
 pub record LengthenAsks (N : Network) (long : List ℕ) : Type 0 where
   pub well : WellFormed N
   pub room : length long ≡ 11360

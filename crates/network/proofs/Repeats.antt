@@ -116,7 +116,7 @@ pair_said {N} {r} further own x l q e = go (eqb (answer_of rs 0).code 0) refl
         let f = said rs 0 refl (sym (ap (λ (a : Answer). a.code) s) ∙ code) (λ k. omega arith) in
         subst (FirstPair N) (sym (ap (λ (a : Answer). a.place) (q ∙ s))) (first_pair f.found f.within)
 
--- a well_formed network has no such pair
+-- a well-formed network has no such pair
 pub distinct : {N : Network} → WellFormed N → (a b : ℕ) → a < b → b < arcs N → repeats N a b ≡ false
 unfolding named refusals_with
 distinct {N} w a b h k = not_repeated N b ((clear 18 (all_clear N w)).nowhere b k) a h

@@ -1,4 +1,4 @@
--- What a well_formed network has, and what codes 1 to 8 alone leave. Assumes nothing.
+-- What a well-formed network has, and what codes 1 to 8 alone leave. Assumes nothing.
 use mathlib.Core.Path.{◌≡◌, refl, sym, ap, ◌∙◌, subst}
 use mathlib.Core.List.{List, ◌++◌}
 use mathlib.Core.Bool.{Bool, true, false, ◌||◌}
@@ -118,7 +118,7 @@ all_clear N w = clear_with N (arcs N) refl w.none
 pub well_formed : (N : Network) → AllClear (refusals N) → WellFormed N
 well_formed N c = record { none = ap (λ (a : Answer). a.code) (clear_all 0 c) }
 
--- with a further row: it is as long as the others, and the network is well_formed
+-- with a further row: it is as long as the others, and the network is well-formed
 pub long_with : (N : Network) (further : ℕ) → AllClear (refusals_with N further) → further ≡ arcs N
 unfolding named refusals_with
 long_with N further c = (even_of N further ((clear 3 c).nowhere 0 (omega arith))).further_long

@@ -1,4 +1,4 @@
--- The working upper bound of an arc of a well_formed network: from lower up, less than the arc period above it, and the arc is met exactly up to
+-- The working upper bound of an arc of a well-formed network: from lower up, less than the arc period above it, and the arc is met exactly up to
 -- its width of slack. Assumes nothing.
 use mathlib.Core.Path.{◌≡◌, refl, sym, ap, ◌∙◌}
 use mathlib.Core.List.{List}

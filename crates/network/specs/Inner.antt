@@ -1,4 +1,4 @@
--- What inner functions ask of a well_formed network with a row of times, and what they say. Definitions alone.
+-- What inner functions ask of a well-formed network with a row of times, and what they say. Definitions alone.
 use Rattle.std.specs.Prelude.{◌≡◌, List, false, ℕ, ◌≤◌, ◌<◌, ℤ, nat_abs, ◌-ℤ◌, ◌≤ℤ◌, length}
 use Rattle.network.specs.Network.{Network, events, arcs}
 use Rattle.numbers.specs.Row.{at}

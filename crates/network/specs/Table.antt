@@ -70,7 +70,7 @@ line N further code = named code (refusals_with N further)
 abbrev pub refusal_of : Network → ℕ → Answer
 refusal_of N further = answer_of (refusals_with N further) 0
 
--- a network is well_formed if none of the codes applies
+-- a network is well-formed if none of the codes applies
 pub record WellFormed (N : Network) : Type 0 where
   pub none : (refusal_of N (arcs N)).code ≡ 0
 

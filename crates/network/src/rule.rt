@@ -2,7 +2,7 @@
 ghost use Rattle.std.specs.Prelude.{◌≡◌, ◌*◌, ◌≤◌, ◌<◌, pos, nat_abs, ◌+ℤ◌, ◌-ℤ◌, length};
 ghost use Rattle.network.specs.Network.{net_of, net_at};
 ghost use Rattle.numbers.specs.Row.{at, at_ℤ};
-ghost use Rattle.network.specs.PublicRule.{arc_period, slack_by, turn_by, working_by, slack as slackOf, tension as tensionOf, met as metOf, cost_of};
+ghost use Rattle.network.specs.PublicRule.{arc_period, slack_by, turn_by, working_by, slack as slack_of, tension as tension_of, met as met_of, cost_of};
 ghost use Rattle.network.specs.First.{First};
 ghost use Rattle.network.specs.Table.{outside_ℤ};
 ghost use Rattle.network.specs.Rows.{late, other, astray, unmet, written, arc_rows_of, arc_rows_at, arc_rows_left, short as short_of};
@@ -104,7 +104,7 @@ fn slack(
     arc: usize,
 ) -> u32
     requires { TimedArc (net_of periods tail head lower upper weight) times.now arc }
-    ensures { result ≡ slackOf (net_at periods tail head lower upper weight) times.now arc }
+    ensures { result ≡ slack_of (net_at periods tail head lower upper weight) times.now arc }
 {
     let g = arc_period(periods, tail, head, lower, upper, weight, arc);
     let from = time_at(tail, times, arc);
@@ -152,7 +152,7 @@ fn tension(
     arc: usize,
 ) -> i32
     requires { TimedArc (net_of periods tail head lower upper weight) times.now arc }
-    ensures { result ≡ tensionOf (net_at periods tail head lower upper weight) times.now arc }
+    ensures { result ≡ tension_of (net_at periods tail head lower upper weight) times.now arc }
 {
     let s = slack(periods, tail, head, lower, upper, weight, times, arc);
     raised(bound(lower, arc), s)
@@ -170,7 +170,7 @@ fn met(
     arc: usize,
 ) -> bool
     requires { TimedArc (net_of periods tail head lower upper weight) times.now arc }
-    ensures { result ≡ metOf (net_at periods tail head lower upper weight) times.now arc }
+    ensures { result ≡ met_of (net_at periods tail head lower upper weight) times.now arc }
 {
     tension(periods, tail, head, lower, upper, weight, times, arc) <= bound(upper, arc)
 }

@@ -1,7 +1,7 @@
 // The network's first refusal: one scan for all lines of the table.
 ghost use Rattle.std.specs.Prelude.{◌≡◌};
 ghost use Rattle.network.specs.Network.{net_of, net_at};
-ghost use Rattle.network.specs.Table.{outside as outsideOf, uneven as unevenOf, strays as straysOf, refusal_of, line};
+ghost use Rattle.network.specs.Table.{outside as outside_of, uneven as uneven_of, strays as strays_of, refusal_of, line};
 ghost use Rattle.network.specs.Trial.{places_of, AsksAt, AsksScan, Scanned};
 
 use crate::Answer;
@@ -14,7 +14,7 @@ const ORDER: [u32; 9] = [1, 2, 3, 4, 5, 6, 7, 8, 18];
 // Is x below the least or above the greatest?
 #[tactic(auto, unfolding(crate::specs::Table::outside))]
 pub fn outside(least: usize, greatest: usize, x: usize) -> bool
-    ensures { result ≡ outsideOf least greatest x }
+    ensures { result ≡ outside_of least greatest x }
 {
     if x < least {
         return true;
@@ -32,7 +32,7 @@ pub fn uneven(
     weights: usize,
     further: usize,
 ) -> bool
-    ensures { result ≡ unevenOf m heads lowers uppers weights further }
+    ensures { result ≡ uneven_of m heads lowers uppers weights further }
 {
     if heads != m {
         return true;
@@ -55,7 +55,7 @@ pub fn uneven(
 // Is an end n or more?
 #[tactic(auto, unfolding(crate::specs::Table::strays))]
 fn strays(n: usize, from: usize, to: usize) -> bool
-    ensures { result ≡ straysOf n from to }
+    ensures { result ≡ strays_of n from to }
 {
     if n <= from {
         return true;

@@ -1,6 +1,6 @@
 -- ℤ for `omega`: each integer z is the difference of two naturals, `up z` less `dn z`, one of which is 0.
 -- A sum, a difference and a multiple have their two parts by a linear equation in ℕ, and an order or an equation in ℤ is one in ℕ.
--- `omega (arith, zed, of_sum a b, of_sub c d)` reads and proves linear facts, with an `ofSum` or `ofSub` for each sum in them.
+-- `omega (arith, zed, of_sum a b, of_sub c d)` reads and proves linear facts, with an `of_sum` or `of_sub` for each sum in them.
 -- Assumes nothing.
 use mathlib.Core.Path.{◌≡◌, refl, sym, ap, ◌∙◌, subst}
 use mathlib.Core.Bool.{Bool, true, false, cond}

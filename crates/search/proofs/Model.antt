@@ -37,6 +37,6 @@ unfoldable pub find : Reduced → ℕ → ℕ → List ℕ → Option (List ℕ)
 find R zero k t = some t
 find R (suc f) k t = tries (λ x. elim (fits R (set t k x) k) [ true ↦ find R f (k + 1) (set t k x) | false ↦ none ]) (period_in R k) 0
 
--- the smallest feasible timetable of a well_formed network, or none
+-- the smallest feasible timetable of a well-formed network, or none
 unfoldable pub smallest_of : Network → Option (List ℕ)
 smallest_of N = find (reduced_for N) (events N) 0 (zeros (events N))

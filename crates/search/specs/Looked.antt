@@ -11,7 +11,7 @@ pub data Looked (N : Network) (t : List ℕ) : Bool → Type 0 where
   found : Smallest N t → Looked N t true
   nothing : ((u : List ℕ) → Feasible N u → ⊥) → Looked N t false
 
--- what it asks: a well_formed network, and a row with an entry for each event
+-- what it asks: a well-formed network, and a row with an entry for each event
 pub record Asked (N : Network) (t : List ℕ) : Type 0 where
   pub well : WellFormed N
   pub long : length t ≡ events N

@@ -206,7 +206,7 @@ pub fn put_arcs(
     weight: &[u32],
 ) -> usize
     requires five_rows { FiveRows tail.now head.now lower.now upper.now weight.now }
-    requires weight_in_bounds { length (printed arc_layout (arcs_of tail.now head.now lower.now upper.now weight.now)) ≤ length out.old }
+    requires room { length (printed arc_layout (arcs_of tail.now head.now lower.now upper.now weight.now)) ≤ length out.old }
     ensures { Put (printed arc_layout (arcs_at tail head lower upper weight)) 0 out.old out.new result }
 {
     let mut at = put_bytes(out, 0, b"arc,tail,head,lower,upper,weight\r\n");

@@ -6,6 +6,7 @@ ghost use Rattle.text.specs.Cursor.{number_of, signed_of};
 use crate::{Number, Signed};
 
 // Digits of any length; a value too large is bad as soon as it is seen.
+#[tactic(auto, using(crate::proofs::Scans::reading_more, crate::proofs::Scans::reading_large))]
 pub fn plain_number(field: &[u8]) -> Number
     ensures { result ≡ number_of (plain field.now) }
 {

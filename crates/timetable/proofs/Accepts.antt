@@ -1,4 +1,4 @@
--- Check accepts a timetable exactly if the network is well_formed and the timetable is feasible; measure takes any timetable. Assumes nothing.
+-- Check accepts a timetable exactly if the network is well-formed and the timetable is feasible; measure takes any timetable. Assumes nothing.
 use mathlib.Core.Path.{◌≡◌, refl, ap, sym, ◌∙◌}
 use mathlib.Core.List.{List}
 use mathlib.Core.Bool.{Bool, false, not, ◌||◌}

@@ -28,7 +28,7 @@ use Rattle.timetable.proofs.Measures.{measure_room}
 use Rattle.timetable.proofs.Rebuilds.{sheet_judged}
 use Rattle.timetable.proofs.Solves.{solve_well}
 
--- a row of times that fits a well_formed network
+-- a row of times that fits a well-formed network
 timed : {N : Network} {t : List ℕ} → WellFormed N → Timetable N t → cost_of N t < 17179869184
 timed w p = cost_below (record { well = w; long = p.long })
 

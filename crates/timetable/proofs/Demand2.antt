@@ -1,4 +1,4 @@
--- Demand 2, over the contract of solve and the public rule: a well_formed network, lent with room for its answer, is refused as infeasible
+-- Demand 2, over the contract of solve and the public rule: a well-formed network, lent with room for its answer, is refused as infeasible
 -- exactly if no timetable is feasible; otherwise the smallest comes back, with its tensions, turns and cost. Assumes nothing.
 use mathlib.Core.Path.{◌≡◌, ap, ◌∙◌}
 use mathlib.Core.List.{List}

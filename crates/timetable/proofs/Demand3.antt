@@ -1,4 +1,4 @@
--- Demand 3, over the contract of rebuild and the public rule. A sheet is a row of tensions, each within its arc's working bounds, for a well_formed
+-- Demand 3, over the contract of rebuild and the public rule. A sheet is a row of tensions, each within its arc's working bounds, for a well-formed
 -- network in which all events share one period. Assumes nothing.
 use mathlib.Core.Path.{◌≡◌, sym, ap, ◌∙◌}
 use mathlib.Core.List.{List}

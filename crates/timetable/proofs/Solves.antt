@@ -30,7 +30,7 @@ module _ (N : Network) (times : List ℕ) (rows : ArcRows) where
   unfolding solve_judged
   solve_network e n = stopped (refusals N) (solve_refusals N times rows) 0 e n
 
-  -- nothing refuses only where the network is well_formed, and there is room
+  -- nothing refuses only where the network is well-formed, and there is room
   module _ (z : (solve_judged N times rows).code ≡ 0) where
     none_applies : AllClear (refusals N) × AllClear (solve_refusals N times rows)
     unfolding solve_judged coded solve_refusals

