@@ -8,7 +8,7 @@ use Rattle.network.specs.First.{first}
 use Rattle.network.specs.Refusals.{answer_of, after}
 use Rattle.network.specs.Table.{outside, outside_ℤ, uneven, strays, repeats, repeated, refusals_with}
 use Rattle.network.specs.Rows.{written, short, noted}
-use Rattle.search.specs.Reduced.{met_at, put_arc, put_arcs}
+use Rattle.search.specs.Reduced.{met_at, bar_of}
 use Rattle.search.proofs.Model.{reduced_for, hinders, fits, tries, find, smallest_of}
 use Rattle.walks.proofs.Model.{own, step, run, answer}
 use Rattle.timetable.specs.Measure.{measure_refusals, measure_of}
@@ -21,7 +21,9 @@ use Rattle.cases.proofs.Models.{only}
 
 -- one test over the whole list
 all : map (λ (c : Case). computed c.call) cases ≡ map (λ (c : Case). c.said) cases
-unfolding gcd remainder quotient arc_period slack tension turn_of working width_of offset_of arc_cost cost_to first answer_of after outside outside_ℤ uneven strays repeats repeated refusals_with written short noted met_at put_arc put_arcs reduced_for hinders fits tries find smallest_of own step run answer measure_refusals measure_of solve_refusals solve_judged rebuild_refusals rebuild_judged measure_model solve_model rebuild_model
+unfolding gcd remainder quotient arc_period slack tension turn_of working width_of offset_of arc_cost cost_to first answer_of after outside outside_ℤ
+    uneven strays repeats repeated refusals_with written short noted met_at bar_of reduced_for hinders fits tries find smallest_of own step run answer
+    measure_refusals measure_of solve_refusals solve_judged rebuild_refusals rebuild_judged measure_model solve_model rebuild_model
 all = refl
 
 -- and so of each case

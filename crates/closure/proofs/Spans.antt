@@ -1,8 +1,7 @@
 -- The laws of spans: what two of them leave, a span with its two ends exchanged, and two of them one after the other. Assumes nothing.
-use mathlib.Core.Path.{◌≡◌, refl, sym, ap, ◌∙◌}
-use mathlib.Core.Bool.{Bool, true, false}
+use mathlib.Core.Path.{◌≡◌, sym}
 use Prim.Native.Nat.{ℕ, ◌+◌, ◌*◌, ◌-◌, ◌%◌, ◌∣◌, ◌<◌, ◌≤◌, min}
-use native.Mathlib.Nat.{mod-lt, mod-eq_of_lt, add-mul-mod_self_right}
+use native.Mathlib.Nat.{mod-lt}
 use native.Mathlib.Decide.{dec_lt}
 use native.Mathlib.Omega.{arith}
 use lib.IntN.{pos, ◌-ℤ◌}
@@ -11,8 +10,9 @@ use Rattle.numbers.proofs.Integers.{up, dn, of_sub}
 use Rattle.numbers.proofs.Congruence.{cong, parts, cong_dvd}
 use Rattle.numbers.proofs.Remainders.{remainder-below, remainder_cong, remainder_only, mod_cong}
 use Rattle.network.specs.PublicRule.{slack_by}
-use Rattle.closure.specs.Spans.{Within, Shape, turned_of, behind_of, CutAsks, Cut}
-use Rattle.closure.specs.declared.Span.{Span}
+use Rattle.closure.specs.Shapes.{turned_of, behind_of}
+use Rattle.closure.specs.Spans.{Within, Turned, Left}
+use Rattle.closure.specs.declared.span.Span.{Span}
 
 -- ---- the slack over a lower bound: the one number below the gap that leads from the first time to the second, but for whole gaps
 
@@ -35,18 +35,7 @@ module _ (gap low from to : ℕ) where
         cong = cong (dn p.times) (up p.times) (omega (arith, parts p, of_sub (pos to) (pos from), of_sub (pos to -ℤ pos from) (pos low)));
       }))
 
-pub within : {gap low width from to : ℕ} (s : ℕ) → s < gap → s ≤ width → Cong gap (pos to) (pos (from + low + s)) → Within gap low width from to
-within {gap} {low} {width} {from} {to} s h l p = record { most = omega (arith, slack_is gap low from to h p) }
-
 -- ---- from one lower bound to another
-
--- a lower bound behind another, without a division
-pub behind_on : {gap low other : ℕ} → low ≤ other → other < gap → other - low ≡ behind_of gap low other
-behind_on {gap} {low} {other} h l =
-    sym (mod-eq_of_lt (omega arith)) ∙ sym (add-mul-mod_self_right (other - low) 1 gap) ∙ ap (λ (n : ℕ). n % gap) (omega arith)
-
-pub behind_round : {gap low other : ℕ} → other < low → low < gap → other + gap - low ≡ behind_of gap low other
-behind_round h l = sym (mod-eq_of_lt (omega arith))
 
 -- the slack moves by how far the other is behind the first, or by that less a gap
 data Moved (gap d old new : ℕ) : Type 0 where
@@ -83,85 +72,72 @@ moved {gap} {low} other from to h = pick (dec_lt (s + d) gap)
 
 -- ---- what two spans leave
 
-abbrev span : Bool → ℕ → ℕ → Span
-span some low width = record { some = some; low = low; width = width }
+-- what a span holds, by a gap that is its own
+by_gap : {b : Span} {gap from to : ℕ} → b.gap ≡ gap → Within b from to → slack_over gap b.low from to ≤ b.width
+by_gap e h = rw e at h.most
 
-module _ {gap low width other wide : ℕ} (c : CutAsks gap low width other wide) where
-  abbrev d : ℕ
-  d = behind_of gap low other
-
-  some : 0 < gap
-  some = omega (arith, c.old.low_below)
-
-  shape : {l w : ℕ} → l < gap → w < gap → Shape gap l w
-  shape h k = record { gap_most = c.old.gap_most; low_below = h; width_below = k }
-
-  pub after_small : d < 3600
-  after_small = omega (arith, mod-lt (other + gap - low) some, c.old.gap_most)
-
+module _ {a b : Span} (e : b.gap ≡ a.gap) where
   -- the other begins in the first, and ends before the first comes round again
-  pub cut_inside : {r : ℕ} → d ≤ width → d + wide < gap → r ≡ min wide (width - d) → Cut gap low width other wide (span true other r)
-  cut_inside {r} h l e = record {
-    shape = shape c.new.low_below (omega (arith, c.new.width_below));
-    keeps = λ from to p q. (refl, record { most = pick p.most q.most (moved other from to c.old.low_below) });
+  pub cut_inside : {s : Span} → s.gap ≡ a.gap → s.low ≡ b.low → behind_of a.gap a.low b.low ≤ a.width → behind_of a.gap a.low b.low + b.width < a.gap
+      → s.width ≡ min b.width (a.width - behind_of a.gap a.low b.low) → Left a b s
+  cut_inside {s} g o h l w = record {
+    gap_is = g;
+    keeps = λ from to p q. record { most = rw (g, o) (pick p.most (by_gap e q) (moved b.low from to a.shape.low_below)) };
   }
     where
-      pick : {s t : ℕ} → s ≤ width → t ≤ wide → Moved gap d s t → t ≤ r
+      pick : {x y : ℕ} → x ≤ a.width → y ≤ b.width → Moved a.gap (behind_of a.gap a.low b.low) x y → y ≤ s.width
       pick p q (on m) = omega arith
       pick p q (round m) = absurd (omega arith)
 
   -- the other begins behind the first, and ends before the first comes round again
-  pub cut_nothing : width < d → d + wide < gap → Cut gap low width other wide (span false low width)
-  cut_nothing h l = record {
-    shape = c.old;
-    keeps = λ from to p q. absurd (pick p.most q.most (moved other from to c.old.low_below));
-  }
+  pub cut_nothing : a.width < behind_of a.gap a.low b.low → behind_of a.gap a.low b.low + b.width < a.gap → (from to : ℕ) → Within a from to → Within b from to → ⊥
+  cut_nothing h l from to p q = pick p.most (by_gap e q) (moved b.low from to a.shape.low_below)
     where
-      pick : {s t : ℕ} → s ≤ width → t ≤ wide → Moved gap d s t → ⊥
+      pick : {x y : ℕ} → x ≤ a.width → y ≤ b.width → Moved a.gap (behind_of a.gap a.low b.low) x y → ⊥
       pick p q (on m) = omega arith
       pick p q (round m) = omega arith
 
   -- the other begins behind the first, and reaches into it
-  pub cut_begin : {r : ℕ} → width < d → gap ≤ d + wide → r ≡ min width (d + wide - gap) → Cut gap low width other wide (span true low r)
-  cut_begin {r} h l e = record {
-    shape = shape c.old.low_below (omega (arith, c.old.width_below));
-    keeps = λ from to p q. (refl, record { most = pick p.most q.most (moved other from to c.old.low_below) });
+  pub cut_begin : {s : Span} → s.gap ≡ a.gap → s.low ≡ a.low → a.width < behind_of a.gap a.low b.low → a.gap ≤ behind_of a.gap a.low b.low + b.width
+      → s.width ≡ min a.width (behind_of a.gap a.low b.low + b.width - a.gap) → Left a b s
+  cut_begin {s} g o h l w = record {
+    gap_is = g;
+    keeps = λ from to p q. record { most = rw (g, o) (pick p.most (by_gap e q) (moved b.low from to a.shape.low_below)) };
   }
     where
-      pick : {s t : ℕ} → s ≤ width → t ≤ wide → Moved gap d s t → s ≤ r
+      pick : {x y : ℕ} → x ≤ a.width → y ≤ b.width → Moved a.gap (behind_of a.gap a.low b.low) x y → x ≤ s.width
       pick p q (on m) = absurd (omega arith)
       pick p q (round m) = omega arith
 
 -- ---- the ends exchanged
 
-pub turned : {gap low width from to : ℕ} → low < gap → width < gap → Within gap low width from to → Within gap (turned_of gap low width) width to from
-turned {gap} {low} {width} {from} {to} h k i =
-    let s : ℕ = slack_over gap low from to in
-    let m : s ≤ width = i.most in
-    let p : Cong gap (pos to) (pos (from + low + s)) = slack_cong gap low from to (omega arith) in
-    let q : Cong gap (pos (turned_of gap low width)) (pos (2 * gap - (low + width))) = mod_cong (2 * gap - (low + width)) gap (omega arith) in
-    within (width - s) (omega arith) (omega arith)
-    (cong (up p.times + up q.times + 2) (dn p.times + dn q.times) (omega (arith, parts p, parts q)))
-
-pub turned_shape : {gap low width : ℕ} → Shape gap low width → Shape gap (turned_of gap low width) width
-turned_shape {gap} {low} {width} s =
-    let some : 0 < gap = omega (arith, s.low_below) in
-    record { gap_most = s.gap_most; low_below = mod-lt (2 * gap - (low + width)) some; width_below = s.width_below }
+pub turned : {s t : Span} {from to : ℕ} → Turned s t → Within s from to → Within t to from
+turned {s} {t} {from} {to} e i =
+    let x : ℕ = slack_over s.gap s.low from to in
+    let m : x ≤ s.width = i.most in
+    let low : ℕ = turned_of s.gap s.low s.width in
+    let p : Cong s.gap (pos to) (pos (from + s.low + x)) = slack_cong s.gap s.low from to (omega (arith, s.shape.low_below)) in
+    let q : Cong s.gap (pos low) (pos (2 * s.gap - (s.low + s.width))) =
+    mod_cong (2 * s.gap - (s.low + s.width)) s.gap (omega (arith, s.shape.low_below)) in
+    let r : slack_over s.gap low to from ≡ s.width - x =
+    slack_is s.gap low to from (omega (arith, s.shape.width_below))
+    (cong (up p.times + up q.times + 2) (dn p.times + dn q.times) (omega (arith, parts p, parts q, s.shape.low_below, s.shape.width_below))) in
+    record { most = rw (e.gap_is, e.low_is, e.width_is) (omega (arith, r)) }
 
 -- ---- one after the other, by a divisor of both gaps
 
-module _ {gap gap₁ gap₂ low₁ low₂ width₁ width₂ from via to : ℕ} where
-  pub chained : 0 < gap₁ → 0 < gap₂ → gap ∣ gap₁ → gap ∣ gap₂ → width₁ + width₂ < gap
-      → Within gap₁ low₁ width₁ from via → Within gap₂ low₂ width₂ via to
-      → Within gap ((low₁ + low₂) % gap) (width₁ + width₂) from to
-  chained some₁ some₂ d₁ d₂ h i j =
-      let s : ℕ = slack_over gap₁ low₁ from via in
-      let t : ℕ = slack_over gap₂ low₂ via to in
-      let m : s ≤ width₁ = i.most in
-      let n : t ≤ width₂ = j.most in
-      let low : ℕ = (low₁ + low₂) % gap in
-      let p : Cong gap (pos via) (pos (from + low₁ + s)) = cong_dvd d₁ (slack_cong gap₁ low₁ from via some₁) in
-      let q : Cong gap (pos to) (pos (via + low₂ + t)) = cong_dvd d₂ (slack_cong gap₂ low₂ via to some₂) in
-      let o : Cong gap (pos low) (pos (low₁ + low₂)) = mod_cong (low₁ + low₂) gap (omega arith) in
-      within (s + t) (omega arith) (omega arith)
-      (cong (dn p.times + dn q.times + up o.times) (up p.times + up q.times + dn o.times) (omega (arith, parts p, parts q, parts o)))
+pub chained : {a b s : Span} {from via to : ℕ} → s.gap ∣ a.gap → s.gap ∣ b.gap → s.low ≡ (a.low + b.low) % s.gap → s.width ≡ a.width + b.width
+    → Within a from via → Within b via to → Within s from to
+chained {a} {b} {s} {from} {via} {to} d₁ d₂ l w i j =
+    let x : ℕ = slack_over a.gap a.low from via in
+    let y : ℕ = slack_over b.gap b.low via to in
+    let m : x ≤ a.width = i.most in
+    let n : y ≤ b.width = j.most in
+    let h : s.width < s.gap = s.shape.width_below in
+    let p : Cong s.gap (pos via) (pos (from + a.low + x)) = cong_dvd d₁ (slack_cong a.gap a.low from via (omega (arith, a.shape.low_below))) in
+    let q : Cong s.gap (pos to) (pos (via + b.low + y)) = cong_dvd d₂ (slack_cong b.gap b.low via to (omega (arith, b.shape.low_below))) in
+    let o : Cong s.gap (pos s.low) (pos (a.low + b.low)) = rw l (mod_cong (a.low + b.low) s.gap (omega arith)) in
+    let r : slack_over s.gap s.low from to ≡ x + y =
+    slack_is s.gap s.low from to (omega arith)
+    (cong (dn p.times + dn q.times + up o.times) (up p.times + up q.times + dn o.times) (omega (arith, parts p, parts q, parts o))) in
+    record { most = omega (arith, r) }

@@ -1,23 +1,23 @@
 -- The arcs of a network as spans of the table, and what they leave of it. Assumes nothing.
 use mathlib.Core.Path.{◌≡◌, sym, ap, ◌∙◌}
-use mathlib.Core.List.{List}
 use mathlib.Core.Bool.{true}
-use Prim.Native.Nat.{ℕ, ◌+◌, ◌-◌, ◌%◌, ◌<◌, ◌≤◌}
+use Prim.Native.Nat.{ℕ, ◌+◌, ◌-◌, ◌%◌, ◌<◌}
 use native.Mathlib.Omega.{arith}
 use lib.IntN.{pos, ◌-ℤ◌}
 use lib.Dec.{leb}
 use borrow.Author.Tests.{leb-true, le-leb}
 use Rattle.numbers.specs.Remainder.{Cong}
-use Rattle.numbers.specs.Row.{at}
 use Rattle.numbers.proofs.Integers.{up, dn, of_sub}
 use Rattle.numbers.proofs.Congruence.{cong, parts, cong_sym}
 use Rattle.numbers.proofs.Remainders.{remainder-below, remainder_cong, mod_cong}
 use Rattle.network.specs.PublicRule.{slack_by}
-use Rattle.search.specs.Reduced.{Reduced, events_in, near_in, last_in, shift_in, run_in, gap_in, past, met_at, Fitting}
+use Rattle.search.specs.declared.Bar.{Bar}
+use Rattle.search.specs.Reduced.{bar_at, near_in, last_in, past, met_at}
 use Rattle.search.proofs.Reducing.{later}
-use Rattle.closure.specs.Spans.{Within, Shape}
-use Rattle.closure.specs.Tables.{Table, gap_at, Opened, NarrowAsks, Narrowed, Tighter, ArcAsks, Spanned, Spread}
-use Rattle.closure.proofs.Tables.{narrowed}
+use Rattle.closure.specs.declared.span.Span.{Span}
+use Rattle.closure.specs.declared.table.Table.{Table}
+use Rattle.closure.specs.Spans.{Within}
+use Rattle.closure.specs.Steps.{events_of, arcs_of, NarrowAsks}
 
 -- ---- a run of barred times and the span that it leaves: the run begins one after the span's end
 
@@ -32,89 +32,45 @@ bar_is_span {g} {w} low shift h c from to =
     (cong (dn c.times + up p.times + dn q.times) (up c.times + dn p.times + up q.times)
     (omega (arith, parts c, parts p, parts q, of_sub d (pos shift), of_sub d (pos low))))
 
--- the span that a run leaves
-pub within_arc : {g run : ℕ} (shift from to : ℕ) → run < g → leb run (past g shift from to) ≡ true → Within g ((shift + run) % g) ((g - 1) - run) from to
-within_arc {g} {run} shift from to h m =
-    let low = (shift + run) % g in
+-- the span that an arc's run leaves
+record Leaves (b : Bar) (s : Span) : Type 0 where
+  gap_is : s.gap ≡ b.gap
+  low_is : s.low ≡ (b.shift + b.run) % b.gap
+  width_is : s.width ≡ (b.gap - 1) - b.run
+
+within_arc : {b : Bar} {s : Span} {from to : ℕ} → Leaves b s → b.run < b.gap → leb b.run (past b.gap b.shift from to) ≡ true → Within s from to
+within_arc {b} {s} {from} {to} l h m =
+    let g = b.gap in
+    let run = b.run in
+    let low = (b.shift + run) % g in
     let w = (g - 1) - run in
-    let c = mod_cong (shift + run) g (omega arith) in
+    let c = mod_cong (b.shift + run) g (omega arith) in
     let whole : (g - 1) - w ≡ run = omega arith in
-    let b = bar_is_span {g = g} {w = w} low shift (omega arith) (cong (dn c.times) (up c.times + 1) (omega (arith, parts c))) from to in
-    record { most = leb-true _ _ (sym b ∙ ap (λ (n : ℕ). leb n (past g shift from to)) whole ∙ m) }
+    let e = bar_is_span {g = g} {w = w} low b.shift (omega arith) (cong (dn c.times) (up c.times + 1) (omega (arith, parts c))) from to in
+    record { most = rw (l.gap_is, l.low_is, l.width_is) (leb-true _ _ (sym e ∙ ap (λ (n : ℕ). leb n (past g b.shift from to)) whole ∙ m)) }
 
 -- the run that bars what a span does not hold
-pub bar_within : {g low w from to : ℕ} → w < g → Within g low w from to → leb ((g - 1) - w) (past g ((low + w + 1) % g) from to) ≡ true
-bar_within {g} {low} {w} {from} {to} h s =
-    bar_is_span low ((low + w + 1) % g) h (cong_sym (mod_cong (low + w + 1) g (omega arith))) from to ∙ le-leb _ _ s.most
+pub bar_within : {s : Span} {from to : ℕ} → Within s from to → leb ((s.gap - 1) - s.width) (past s.gap ((s.low + s.width + 1) % s.gap) from to) ≡ true
+bar_within {s} {from} {to} i =
+    let h = s.shape.width_below in
+    bar_is_span s.low ((s.low + s.width + 1) % s.gap) h (cong_sym (mod_cong (s.low + s.width + 1) s.gap (omega (arith, h)))) from to ∙ le-leb _ _ i.most
 
 -- ---- one arc
 
-module _ {R : Reduced} {T : Table} {a : ℕ} (c : ArcAsks R T a) where
-  abbrev near : ℕ
-  near = near_in R.bars a
-
-  abbrev last : ℕ
-  last = last_in R.bars a
-
-  abbrev shift : ℕ
-  shift = shift_in R.bars a
-
-  abbrev run : ℕ
-  run = run_in R.bars a
-
-  abbrev gap : ℕ
-  gap = gap_in R.bars a
-
-  last_inside : last < events_in R
-  last_inside = c.asks.sized.barred.last_is a c.arc
-
-  near_inside : near < events_in R
-  near_inside = omega (arith, c.asks.sized.barred.near_is a c.arc, last_inside)
-
-  pub run_below : run < gap
-  run_below = c.asks.sized.barred.run_most a c.arc
-
-  pub shift_below : shift < gap
-  shift_below = c.asks.sized.barred.shift_most a c.arc
-
-  pub gap_small : gap ≤ 3600
-  gap_small = c.asks.sized.barred.gap_most a c.arc
-
-  -- the table has its gap: that of its two ends
-  gap_there : gap_at T near last ≡ gap
-  gap_there = c.asks.shaped.gap_is near last near_inside last_inside ∙ sym (c.asks.sized.gap_is a c.arc)
-
-  -- any span by that gap may narrow theirs
-  pub arc_asks : {low width : ℕ} → low < gap → width < gap → NarrowAsks T near last low width
-  arc_asks {low} {width} h l =
-      let shape : Shape gap low width = record { gap_most = gap_small; low_below = h; width_below = l } in
-      record {
-        roomy = c.asks.shaped.roomy;
-        first = omega (arith, near_inside, c.asks.sized.few);
-        second = omega (arith, last_inside, c.asks.sized.few);
-        old = c.asks.shaped.shape near last near_inside last_inside;
-        new = rw gap_there shape;
-      }
-
-  -- a fitting timetable meets the arc
-  held : (u : List ℕ) → Fitting R u → Within (gap_at T near last) ((shift + run) % gap) ((gap - 1) - run) (at u near) (at u last)
-  unfolding met_at
-  held u f = rw gap_there (within_arc shift (at u near) (at u last) run_below (f.met a c.arc))
-
-  -- the arc's own span loses none
-  pub arc_narrowed : {T' : Table} {low width r : ℕ} → Narrowed T near last low width T' r → low ≡ (shift + run) % gap → width ≡ (gap - 1) - run
-      → Tighter (Fitting R) R.periods T T' r
-  arc_narrowed n p q = narrowed c.asks.shaped near_inside last_inside (λ u f k. rw (p, q) (held u f)) n
-
--- ---- the table of a network
-
--- a table that holds every difference holds those of the fitting timetables
-pub spanned_opened : {R : Reduced} {T : Table} → Opened R.periods T → Spanned R T
-spanned_opened o = record { shaped = o.shaped; keeps = λ u f. o.all u }
-
--- a step that loses no fitting timetable
-pub spanned_tighter : {R : Reduced} {T T' : Table} {r : ℕ} → Spanned R T → Tighter (Fitting R) R.periods T T' r → Spread R T' r
-spanned_tighter s t = record {
-  spanned = record { shaped = t.shaped; keeps = λ u f. (t.keeps u f (s.keeps u f)).1 };
-  none = λ e u f. (t.keeps u f (s.keeps u f)).0 e;
-}
+-- its own span holds the difference of its ends in every fitting timetable
+pub arc_asks : {T : Table} {a : ℕ} {s : Span} → a < arcs_of T → s.gap ≡ (bar_at T.network.bars.now a).gap
+    → s.low ≡ ((bar_at T.network.bars.now a).shift + (bar_at T.network.bars.now a).run) % (bar_at T.network.bars.now a).gap
+    → s.width ≡ ((bar_at T.network.bars.now a).gap - 1) - (bar_at T.network.bars.now a).run
+    → NarrowAsks T (near_in T.network.bars.now a) (last_in T.network.bars.now a) s
+unfolding met_at
+arc_asks {T} {a} {s} h g l w =
+    let z = T.network.sized in
+    let last : last_in T.network.bars.now a < events_of T = z.barred.last_is a h in
+    let near : near_in T.network.bars.now a < events_of T = omega (arith, z.barred.near_is a h, last) in
+    record {
+      first = near;
+      second = last;
+      gap_is = g ∙ z.gap_is a h ∙ sym (T.spanned.gap_is (near_in T.network.bars.now a) (last_in T.network.bars.now a) near last);
+      holds = λ u f.
+          within_arc {b = bar_at T.network.bars.now a} (record { gap_is = g; low_is = l; width_is = w }) (z.barred.run_most a h) (f.met a h);
+    }

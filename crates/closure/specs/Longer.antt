@@ -1,109 +1,86 @@
 -- The longer network: the spans of the table as arcs, and the network's own, sorted by their earlier end. Definitions alone.
-use Rattle.std.specs.Prelude.{◌≡◌, List, true, cond, ℕ, zero, suc, ◌+◌, ◌*◌, ◌<◌, ◌≤◌, length, take, leb, ltb}
+use Rattle.std.specs.Prelude.{◌≡◌, List, Option, Some, None, true, cond, ℕ, zero, suc, ◌+◌, ◌<◌, ◌≤◌, length, take, leb, ltb}
 use Rattle.numbers.specs.Divisor.{gcd}
 use Rattle.numbers.specs.Row.{at}
-use Rattle.network.specs.Network.{Network, arcs}
+use Rattle.network.specs.Network.{Network}
 use Rattle.network.specs.PublicRule.{Feasible}
-use Rattle.network.specs.Table.{WellFormed}
-use Rattle.search.specs.Reduced.{Reduced, reduced, events_in, period_in, near_in, last_in, shift_in, run_in, gap_in, past, Fitting, Sized, put, PutAsks}
+use Rattle.search.specs.Reduced.{Reduced, reduced, arcs_in, events_in, period_in, bar_at, near_in, past, Fitting, Sized}
+use Rattle.search.specs.Lent.{lent}
 use Rattle.search.specs.Looked.{Serves}
+use Rattle.search.specs.declared.Bar.{Bar}
 use Rattle.closure.specs.declared.Closed.{Closed}
-use Rattle.closure.specs.Tables.{Table, Roomy, Spanned}
+use Rattle.closure.specs.declared.TheConstants.{ROOM}
+use Rattle.closure.specs.declared.longer.TheConstants.{PAIRS, ARCS}
+use Rattle.closure.specs.declared.table.Table.{Table}
+use Rattle.closure.specs.Steps.{events_of, arcs_of}
 
--- an arc between two events of the network that every fitting timetable meets, by its five numbers
-pub record ImpliedArc (R : Reduced) (near last shift run gap : ℕ) : Type 0 where
-  pub near_is : near < last
-  pub last_is : last < events_in R
-  pub shift_most : shift < gap
-  pub run_most : run < gap
-  pub gap_most : gap ≤ 3600
-  pub gap_is : gap ≡ gcd (period_in R near) (period_in R last)
-  pub met : (u : List ℕ) → Fitting R u → leb run (past gap shift (at u near) (at u last)) ≡ true
-
--- the five numbers of arc a of a row are those of such an arc
-abbrev pub ImpliedIn : Reduced → List ℕ → ℕ → Type 0
-ImpliedIn R bars a = ImpliedArc R (near_in bars a) (last_in bars a) (shift_in bars a) (run_in bars a) (gap_in bars a)
-
--- arc a of one row and arc b of another have the same five numbers
-pub record Same (bars bars' : List ℕ) (a b : ℕ) : Type 0 where
-  pub near_is : near_in bars' b ≡ near_in bars a
-  pub last_is : last_in bars' b ≡ last_in bars a
-  pub shift_is : shift_in bars' b ≡ shift_in bars a
-  pub run_is : run_in bars' b ≡ run_in bars a
-  pub gap_is : gap_in bars' b ≡ gap_in bars a
+-- an arc between two events of the network that every fitting timetable meets
+pub record ImpliedArc (R : Reduced) (b : Bar) : Type 0 where
+  pub near_is : b.near < b.last
+  pub last_is : b.last < events_in R
+  pub shift_most : b.shift < b.gap
+  pub run_most : b.run < b.gap
+  pub gap_most : b.gap ≤ 3600
+  pub gap_is : b.gap ≡ gcd (period_in R b.near) (period_in R b.last)
+  pub met : (u : List ℕ) → Fitting R u → leb b.run (past b.gap b.shift (at u b.near) (at u b.last)) ≡ true
 
 -- arc a of the row `own` stands among the first c arcs of the row `bars`
-pub record Stands (own bars : List ℕ) (c a : ℕ) : Type 0 where
+pub record Stands (own bars : List Bar) (c a : ℕ) : Type 0 where
   pub place : ℕ
   pub inside : place < c
-  pub same : Same own bars a place
+  pub same : bar_at bars place ≡ bar_at own a
 
 -- ---- the longer network as it grows, event by event
 
 -- a row with room for the spans of all pairs and 256 arcs more. Its first c arcs are implied; among them stand the network's own arcs whose earlier end is
 -- below i, and of its first x arcs those whose earlier end is i
-pub record Grown (R : Reduced) (bars : List ℕ) (i x c : ℕ) : Type 0 where
-  pub long : length bars ≡ 11360
-  pub each : (b : ℕ) → b < c → ImpliedIn R bars b
-  pub earlier : (a : ℕ) → a < R.arcs → near_in R.bars a < i → Stands R.bars bars c a
+pub record Grown (R : Reduced) (bars : List Bar) (i x c : ℕ) : Type 0 where
+  pub long : length bars ≡ ROOM
+  pub each : (b : ℕ) → b < c → ImpliedArc R (bar_at bars b)
+  pub earlier : (a : ℕ) → a < arcs_in R → near_in R.bars a < i → Stands R.bars bars c a
   pub present : (a : ℕ) → a < x → near_in R.bars a ≡ i → Stands R.bars bars c a
 
 -- with room for the spans that are still to come, where `own` of the arcs are the network's own
-pub record Grows (R : Reduced) (bars : List ℕ) (i own c : ℕ) : Type 0 where
+pub record Grows (R : Reduced) (bars : List Bar) (i own c : ℕ) : Type 0 where
   pub grown : Grown R bars i 0 c
-  pub few : c ≤ 2016 + own
+  pub few : c ≤ PAIRS + own
 
--- what the appending asks: for the spans of event i and later ones, for that of i and j
-pub record RowAsks (R : Reduced) (T : Table) (bars : List ℕ) (i own c : ℕ) : Type 0 where
-  pub sized : Sized R
-  pub spanned : Spanned R T
-  pub event : i < events_in R
-  pub own_few : own ≤ 256
-  pub grows : Grows R bars i own c
+-- what the appending of the spans of event i and later ones asks
+pub record RowAsks (T : Table) (bars : List Bar) (i own c : ℕ) : Type 0 where
+  pub event : i < events_of T
+  pub own_few : own ≤ ARCS
+  pub grows : Grows (lent T.network) bars i own c
 
-pub record PairAsks (R : Reduced) (T : Table) (bars : List ℕ) (i j own c : ℕ) : Type 0 where
-  pub row : RowAsks R T bars i own c
+-- what the appending of that of i and j asks
+pub record PairAsks (T : Table) (bars : List Bar) (i j own c : ℕ) : Type 0 where
+  pub row : RowAsks T bars i own c
   pub order : i < j
-  pub second : j < events_in R
+  pub second : j < events_of T
 
 -- how many of the first x arcs of a row have an earlier end below i
-unfoldable pub below : List ℕ → ℕ → ℕ → ℕ
+unfoldable pub below : List Bar → ℕ → ℕ → ℕ
 below bars i zero = 0
 below bars i (suc x) = below bars i x + cond (ltb (near_in bars x) i) 1 0
 
--- for the network's own arcs of event i: room for as many as there are
-pub record OwnAsks (R : Reduced) (bars : List ℕ) (i c : ℕ) : Type 0 where
-  pub sized : Sized R
+-- what the appending of the network's own arcs of event i asks: room for as many as there are
+pub record OwnAsks (R : Reduced) (bars : List Bar) (i c : ℕ) : Type 0 where
   pub grown : Grown R bars i 0 c
-  pub room : c + below R.bars (i + 1) R.arcs ≤ 2272 + below R.bars i R.arcs
+  pub room : c + below R.bars (i + 1) (arcs_in R) ≤ ROOM + below R.bars i (arcs_in R)
 
--- they stand there, and d arcs in all
-pub record Picked (R : Reduced) (bars : List ℕ) (i c d : ℕ) : Type 0 where
+-- what it leaves: they stand there, and d arcs in all
+pub record Picked (R : Reduced) (bars : List Bar) (i c d : ℕ) : Type 0 where
   pub grown : Grown R bars (i + 1) 0 d
-  pub count : d + below R.bars i R.arcs ≡ c + below R.bars (i + 1) R.arcs
+  pub count : d + below R.bars i (arcs_in R) ≡ c + below R.bars (i + 1) (arcs_in R)
 
--- for one arc a of a row, if its earlier end is i
-pub record PickAsks (own bars : List ℕ) (i a c : ℕ) : Type 0 where
-  pub arc : 5 * a + 4 < length own
-  pub few : a < 2272
-  pub room : near_in own a ≡ i → PutAsks bars c
-
--- by the number of arcs then: it is passed over, or its five numbers are written behind the first c arcs
-pub data Picks (own bars : List ℕ) (i a c : ℕ) : List ℕ → ℕ → Type 0 where
-  passed : (near_in own a ≡ i → ⊥) → Picks own bars i a c bars c
-  taken : near_in own a ≡ i → Picks own bars i a c (put bars c (near_in own a) (last_in own a) (shift_in own a) (run_in own a) (gap_in own a)) (c + 1)
-
--- for all arcs
-pub record AppendAsks (R : Reduced) (T : Table) (bars : List ℕ) : Type 0 where
-  pub sized : Sized R
-  pub spanned : Spanned R T
-  pub own_few : R.arcs ≤ 256
-  pub long : length bars ≡ 11360
+-- what the appending of all arcs asks
+pub record AppendAsks (T : Table) (bars : List Bar) : Type 0 where
+  pub own_few : arcs_of T ≤ ARCS
+  pub long : length bars ≡ ROOM
 
 -- the whole longer network: c arcs, and the network's own among them
-pub record Whole (R : Reduced) (bars : List ℕ) (c : ℕ) : Type 0 where
+pub record Whole (R : Reduced) (bars : List Bar) (c : ℕ) : Type 0 where
   pub grown : Grown R bars (events_in R) 0 c
-  pub few : c ≤ 2016 + R.arcs
+  pub few : c ≤ PAIRS + arcs_in R
 
 -- it is one for the search, with the same fitting timetables
 pub record Longer (R R' : Reduced) : Type 0 where
@@ -111,18 +88,7 @@ pub record Longer (R R' : Reduced) : Type 0 where
   pub fits : (u : List ℕ) → Fitting R u → Fitting R' u
   pub back : (u : List ℕ) → Fitting R' u → Fitting R u
 
--- the answer of the closure: 0 rounds where nothing is feasible; else the row begins with the arcs of a network that serves the search
-pub record Lengthened (N : Network) (long : List ℕ) (r : Closed) : Type 0 where
-  pub none : r.rounds ≡ 0 → (u : List ℕ) → Feasible N u → ⊥
-  pub some : (r.rounds ≡ 0 → ⊥) → Serves N (reduced N.periods (take (5 * r.arcs) long) r.arcs)
-
--- what it asks: a well-formed network, and room for the longer one
-pub record LengthenAsks (N : Network) (long : List ℕ) : Type 0 where
-  pub well : WellFormed N
-  pub room : length long ≡ 11360
-
--- and the rows of scratch: five entries for each arc, and a table
-pub record Lent (N : Network) (bars : List ℕ) (T : Table) (long : List ℕ) : Type 0 where
-  pub asks : LengthenAsks N long
-  pub bars_long : length bars ≡ 5 * arcs N
-  pub roomy : Roomy T
+-- the answer of the closure: none where nothing is feasible; else the row begins with the arcs of a network that serves the search, and it took a round at least
+abbrev pub Lengthened : Network → List Bar → Option Closed → Type 0
+Lengthened N long None = (u : List ℕ) → Feasible N u → ⊥
+Lengthened N long (Some c) = (c.arcs ≤ length long) × Serves N (reduced N.periods (take c.arcs long)) × (0 < c.rounds)

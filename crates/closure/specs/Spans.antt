@@ -1,32 +1,25 @@
--- A span holds the difference of two times, by a gap: from a lower bound on, as far as a width. Definitions alone.
-use Rattle.std.specs.Prelude.{◌≡◌, true, ℕ, ◌+◌, ◌*◌, ◌-◌, ◌%◌, ◌<◌, ◌≤◌, pos}
+-- Spans with their numbers: the ends exchanged, and what two of them leave. Definitions alone.
+use Rattle.std.specs.Prelude.{◌≡◌, Option, Some, None, ℕ, ◌≤◌, pos}
 use Rattle.network.specs.PublicRule.{slack_by}
-use Rattle.closure.specs.declared.Span.{Span}
+use Rattle.closure.specs.Shapes.{turned_of}
+use Rattle.closure.specs.declared.span.Span.{Span}
 
 -- the time `to` less the time `from` lies in the span: its slack over the lower bound is at most the width
-pub record Within (gap low width from to : ℕ) : Type 0 where
-  pub most : slack_by gap (pos low) from to ≤ width
+pub record Within (s : Span) (from to : ℕ) : Type 0 where
+  pub most : slack_by s.gap (pos s.low) from to ≤ s.width
 
--- the numbers of a span that holds some difference
-pub record Shape (gap low width : ℕ) : Type 0 where
-  pub gap_most : gap ≤ 3600
-  pub low_below : low < gap
-  pub width_below : width < gap
+-- t is s with its two ends exchanged
+pub record Turned (s t : Span) : Type 0 where
+  pub low_is : t.low ≡ turned_of s.gap s.low s.width
+  pub width_is : t.width ≡ s.width
+  pub gap_is : t.gap ≡ s.gap
 
--- the lower bound of a span with its two ends exchanged: less its greatest difference
-abbrev pub turned_of : ℕ → ℕ → ℕ → ℕ
-turned_of gap low width = (2 * gap - (low + width)) % gap
+-- s holds what both a and b hold
+pub record Left (a b s : Span) : Type 0 where
+  pub gap_is : s.gap ≡ a.gap
+  pub keeps : (from to : ℕ) → Within a from to → Within b from to → Within s from to
 
--- how far a lower bound is behind another
-abbrev pub behind_of : ℕ → ℕ → ℕ → ℕ
-behind_of gap low other = (other + gap - low) % gap
-
--- two spans by one gap
-pub record CutAsks (gap low width other wide : ℕ) : Type 0 where
-  pub old : Shape gap low width
-  pub new : Shape gap other wide
-
--- what two spans leave: a span that holds what both hold; where it has nothing, both hold nothing
-pub record Cut (gap low width other wide : ℕ) (r : Span) : Type 0 where
-  pub shape : Shape gap r.low r.width
-  pub keeps : (from to : ℕ) → Within gap low width from to → Within gap other wide from to → (r.some ≡ true) × Within gap r.low r.width from to
+-- what two spans leave: none where they hold no difference in common
+abbrev pub Cut : Span → Span → Option Span → Type 0
+Cut a b None = (from to : ℕ) → Within a from to → Within b from to → ⊥
+Cut a b (Some s) = Left a b s

@@ -1,118 +1,55 @@
 // The table of spans for the arcs of a network.
-ghost use Rattle.search.specs.Reduced.{reduced, reduced_at, Fitting};
-ghost use Rattle.closure.specs.Tables.{table, ArcsAsk, ArcAsks, Tighter, SpreadAsks, Spread};
+use crate::span::Span;
+use crate::table::{Change, Table};
 
-use crate::table::{close_round, narrow, widen};
-use network::rule::entry;
+// How many rounds the closure makes at most.
+const ROUNDS: u32 = 64;
 
-// Narrows the span of an arc's ends by the arc: all but its run of barred times.
-fn add_arc(
-    periods: &[u32],
-    bars: &[u32],
-    m: usize,
-    lows: &mut [u32],
-    widths: &mut [u32],
-    gaps: &[u32],
-    arc: usize,
-) -> u32
-    requires { ArcAsks (reduced periods.now bars.now m) (table lows.old widths.old gaps.now) arc }
-    ensures { Tighter (Fitting (reduced_at periods bars m)) periods.now (table lows.old widths.old gaps.now) (table lows.new widths.new gaps.now) result }
-{
-    let at = 5 * arc;
-    let run = bars[at + 3];
-    let gap = bars[at + 4];
-    let low = (bars[at + 2] + run) % gap;
-    narrow(
-        lows,
-        widths,
-        gaps,
-        entry(bars, at),
-        entry(bars, at + 1),
-        low,
-        gap - 1 - run,
-    )
-}
+impl<'a> Table<'a> {
+    ghost use Rattle.std.specs.Prelude.{◌<◌};
+    ghost use Rattle.closure.specs.Steps.{Step, Counted, arcs_of};
 
-// Narrows by every arc: 0 if nothing is left.
-fn add_arcs(
-    periods: &[u32],
-    bars: &[u32],
-    m: usize,
-    lows: &mut [u32],
-    widths: &mut [u32],
-    gaps: &[u32],
-) -> u32
-    requires { ArcsAsk (reduced periods.now bars.now m) (table lows.old widths.old gaps.now) }
-    ensures { Tighter (Fitting (reduced_at periods bars m)) periods.now (table lows.old widths.old gaps.now) (table lows.new widths.new gaps.now) result }
-{
-    let mut arc = 0;
-    while arc < m {
-        let r = add_arc(periods, bars, m, lows, widths, gaps, arc);
-        if r == 0 {
-            return 0;
-        }
-        arc += 1;
+    // Narrows the span of an arc's ends by the arc: all but its run of barred times.
+    fn add_arc(&mut self, arc: usize) -> Option<Change>
+        requires { arc < arcs_of self.old }
+        ensures { Step self.old self.new result }
+    {
+        let bar = self.network.bars[arc];
+        let gap = bar.gap;
+        let low = (bar.shift + bar.run) % gap;
+        let width = gap - 1 - bar.run;
+        let left = Span { low, width, gap };
+        self.narrow(bar.near as usize, bar.last as usize, left)
     }
-    1
-}
 
-// One round. An arc may cut off a piece now that it could not cut off a wider span, so that each round begins with the arcs.
-fn whole_round(
-    periods: &[u32],
-    bars: &[u32],
-    m: usize,
-    lows: &mut [u32],
-    widths: &mut [u32],
-    gaps: &[u32],
-) -> u32
-    requires { ArcsAsk (reduced periods.now bars.now m) (table lows.old widths.old gaps.now) }
-    ensures { Tighter (Fitting (reduced_at periods bars m)) periods.now (table lows.old widths.old gaps.now) (table lows.new widths.new gaps.now) result }
-{
-    let left = add_arcs(periods, bars, m, lows, widths, gaps);
-    if left == 0 {
-        return 0;
-    }
-    close_round(periods, lows, widths, gaps)
-}
-
-// Rounds until no span becomes less wide through an event, 64 at most: how many, or 0 if nothing is left.
-fn close(
-    periods: &[u32],
-    bars: &[u32],
-    m: usize,
-    lows: &mut [u32],
-    widths: &mut [u32],
-    gaps: &[u32],
-) -> u32
-    requires { ArcsAsk (reduced periods.now bars.now m) (table lows.old widths.old gaps.now) }
-    ensures { Tighter (Fitting (reduced_at periods bars m)) periods.now (table lows.old widths.old gaps.now) (table lows.new widths.new gaps.now) result }
-{
-    let mut round: u32 = 1;
-    while round <= 64 {
-        let status = whole_round(periods, bars, m, lows, widths, gaps);
-        if status == 0 {
-            return 0;
+    // Narrows by every arc, or none where nothing is left.
+    fn add_arcs(&mut self) -> Option<()>
+        ensures { Step self.old self.new result }
+    {
+        for arc in 0..self.network.bars.len() {
+            self.add_arc(arc)?;
         }
-        if status < 2 {
-            return round;
-        }
-        round += 1;
+        Some(())
     }
-    64
-}
 
-// Makes the table and closes it: in how many rounds, or 0 if nothing fits.
-pub fn spread(
-    periods: &[u32],
-    bars: &[u32],
-    m: usize,
-    lows: &mut [u32],
-    widths: &mut [u32],
-    gaps: &mut [u32],
-) -> u32
-    requires { SpreadAsks (reduced periods.now bars.now m) (table lows.old widths.old gaps.old) }
-    ensures { Spread (reduced_at periods bars m) (table lows.new widths.new gaps.new) result }
-{
-    widen(periods, lows, widths, gaps);
-    close(periods, bars, m, lows, widths, &gaps[..])
+    // One round. An arc may cut off a piece now that it could not cut off a wider span, so that each round begins with the arcs.
+    fn whole_round(&mut self) -> Option<Change>
+        ensures { Step self.old self.new result }
+    {
+        self.add_arcs()?;
+        self.close_round()
+    }
+
+    // Rounds until no span becomes less wide through an event: how many, or none where nothing fits.
+    pub fn close(&mut self) -> Option<u32>
+        ensures step { Step self.old self.new result }
+        ensures some_rounds { Counted result }
+    {
+        for round in 1..=ROUNDS {
+            if self.whole_round()? == Change::Same {
+                return Some(round);
+            }
+        }
+        Some(ROUNDS)
+    }
 }

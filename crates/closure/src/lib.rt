@@ -3,144 +3,82 @@
 #![tactic(auto)]
 
 ghost use Rattle.std.specs.Prelude.{◌≡◌, length};
-ghost use Rattle.network.specs.Network.{net_of, net_at};
-ghost use Rattle.search.specs.Looked.{Looked, Asked};
-ghost use Rattle.closure.specs.Tables.{table};
-ghost use Rattle.closure.specs.Longer.{Lent, LengthenAsks, Lengthened};
+ghost use Rattle.network.specs.Network.{arcs, events};
+ghost use Rattle.search.specs.Looked.{Looked};
+ghost use Rattle.closure.specs.Longer.{Lengthened};
 
 mod arcs;
-mod cut;
 mod longer;
+mod span;
 mod table;
 
-// Some span, or none.
-#[derive(Drop)]
-pub struct Span {
-    pub some: bool,
-    pub low: u32,
-    pub width: u32,
-}
+use longer::ARCS;
+use network::WellFormed;
+use search::{Bar, NO_BAR, Reduced};
+use span::Span;
+use table::{PLACES, Table};
 
-// How many rounds the closure made, 0 where nothing fits; and how many arcs the longer network then has.
-#[derive(Drop)]
+// Room for a longer network.
+pub const ROOM: usize = search::ROOM;
+
+// How many rounds the closure made, and how many arcs the longer network then has.
+#[derive(Clone, Copy, PartialEq, Eq, Debug)]
 pub struct Closed {
     pub rounds: u32,
     pub arcs: usize,
 }
 
-// Writes the longer network over four rows of scratch.
+// Writes the longer network over rows of scratch. Rows and no arrays: as many bars are lent as there are arcs, and callers lend the longer row as they have it.
 fn extend(
-    periods: &[u32],
-    tail: &[u32],
-    head: &[u32],
-    lower: &[i32],
-    upper: &[i32],
-    weight: &[u32],
-    bars: &mut [u32],
-    lows: &mut [u32],
-    widths: &mut [u32],
-    gaps: &mut [u32],
-    longer: &mut [u32],
-) -> Closed
-    requires { Lent (net_of periods tail head lower upper weight) bars.old (table lows.old widths.old gaps.old) longer.old }
-    ensures { Lengthened (net_at periods tail head lower upper weight) longer.new result }
+    network: &WellFormed,
+    bars: &mut [Bar],
+    spans: &mut [Span],
+    longer: &mut [Bar],
+) -> Option<Closed>
+    requires bars_long { length bars.old ≡ arcs network.now.rows }
+    requires spans_long { length spans.old ≡ PLACES }
+    requires room { length longer.old ≡ ROOM }
+    ensures { Lengthened network.now.rows longer.new result }
 {
-    let m = tail.len();
-    search::reduce::reduce(periods, tail, head, lower, upper, weight, bars);
-    let rounds = arcs::spread(periods, &bars[..], m, lows, widths, gaps);
-    if rounds == 0 {
-        return Closed { rounds, arcs: 0 };
-    }
-    let arcs = longer::append_all(
-        periods,
-        &bars[..],
-        m,
-        &lows[..],
-        &widths[..],
-        &gaps[..],
-        longer,
-    );
-    Closed { rounds, arcs }
+    search::reduce(network, bars);
+    let reduced = Reduced {
+        periods: network.rows.periods,
+        bars,
+    };
+    let mut table = Table::widen(reduced, spans);
+    let rounds = table.close()?;
+    let arcs = longer::append_all(&table, longer);
+    Some(Closed { rounds, arcs })
 }
 
-// The longer network of a network, written into the row.
-pub fn lengthen(
-    periods: &[u32],
-    tail: &[u32],
-    head: &[u32],
-    lower: &[i32],
-    upper: &[i32],
-    weight: &[u32],
-    longer: &mut [u32],
-) -> Closed
-    requires { LengthenAsks (net_of periods tail head lower upper weight) longer.old }
-    ensures { Lengthened (net_at periods tail head lower upper weight) longer.new result }
+// The longer network of a network, written into the row; or none where nothing is feasible.
+pub fn lengthen(network: &WellFormed, longer: &mut [Bar]) -> Option<Closed>
+    requires { length longer.old ≡ ROOM }
+    ensures { Lengthened network.now.rows longer.new result }
 {
-    let m = tail.len();
-    let mut bars = [0u32; 1280];
-    let mut lows = [0u32; 4096];
-    let mut widths = [0u32; 4096];
-    let mut gaps = [0u32; 4096];
-    extend(
-        periods,
-        tail,
-        head,
-        lower,
-        upper,
-        weight,
-        &mut bars[..5 * m],
-        &mut lows[..],
-        &mut widths[..],
-        &mut gaps[..],
-        longer,
-    )
-}
-
-// Looks for it over a row of scratch.
-fn look(
-    periods: &[u32],
-    tail: &[u32],
-    head: &[u32],
-    lower: &[i32],
-    upper: &[i32],
-    weight: &[u32],
-    times: &mut [u32],
-    longer: &mut [u32],
-) -> bool
-    requires asked { Asked (net_of periods tail head lower upper weight) times.old }
-    requires longer_len { length longer.old ≡ 11360 }
-    ensures { Looked (net_at periods tail head lower upper weight) times.new result }
-{
-    let closed = lengthen(periods, tail, head, lower, upper, weight, longer);
-    if closed.rounds == 0 {
-        return false;
-    }
-    let all = closed.arcs;
-    search::least(periods, &longer[..5 * all], all, times)
+    let arcs = network.rows.arcs();
+    let mut bars = [NO_BAR; ARCS];
+    let mut spans = [Span {
+        low: 0,
+        width: 0,
+        gap: 1,
+    }; PLACES];
+    extend(network, &mut bars[..arcs], &mut spans, longer)
 }
 
 // The smallest feasible timetable, written into the row; or false where there is none.
-pub fn smallest(
-    periods: &[u32],
-    tail: &[u32],
-    head: &[u32],
-    lower: &[i32],
-    upper: &[i32],
-    weight: &[u32],
-    times: &mut [u32],
-) -> bool
-    requires { Asked (net_of periods tail head lower upper weight) times.old }
-    ensures { Looked (net_at periods tail head lower upper weight) times.new result }
+// A bool beside the row: the row is the caller's, since nothing is allocated.
+pub fn smallest(network: &WellFormed, times: &mut [u32]) -> bool
+    requires { length times.old ≡ events network.now.rows }
+    ensures { Looked network.now.rows times.new result }
 {
-    let mut longer = [0u32; 11360];
-    look(
-        periods,
-        tail,
-        head,
-        lower,
-        upper,
-        weight,
-        times,
-        &mut longer[..],
-    )
+    let mut longer = [NO_BAR; ROOM];
+    let Some(closed) = lengthen(network, &mut longer) else {
+        return false;
+    };
+    let reduced = Reduced {
+        periods: network.rows.periods,
+        bars: &longer[..closed.arcs],
+    };
+    search::least(&reduced, times)
 }

@@ -1,87 +1,65 @@
 // The table of spans, and its closure: each pair of events is cut down through every third one.
-ghost use Rattle.std.specs.Prelude.{◌≡◌, ◌+◌, ◌%◌, ◌<◌, max};
+ghost use Rattle.std.specs.Prelude.{◌≡◌, ◌+◌, ◌%◌, ◌<◌};
 ghost use Rattle.numbers.specs.Divisor.{IsGcd};
 ghost use Rattle.numbers.specs.Row.{at};
-ghost use Rattle.closure.specs.Tables.{table, OpenAsks, GapAsks, WidenAsks, Widening, Opened};
-ghost use Rattle.closure.specs.Tables.{NarrowAsks, Narrowed, Timed, Tighter, Shaped, Through, Pair, Three};
+ghost use Rattle.search.specs.Lent.{lent};
+ghost use Rattle.closure.specs.Tables.{spot, OpenAsks, GapAsks, WidenAsks, Widening, Spanned};
 
-use crate::cut::{cut, turned};
+use crate::span::Span;
+use search::Reduced;
 
-// The greater of two.
-fn greater(a: u32, b: u32) -> u32
-    ensures { result ≡ max a b }
-{
-    if a < b { b } else { a }
+// How many events the table has room for.
+pub const EVENTS: usize = 64;
+
+// How many places the table has: one for each two events.
+pub const PLACES: usize = EVENTS * EVENTS;
+
+// What a step leaves of the spans: all as they were, or some less wide.
+#[derive(Clone, Copy, PartialEq, Eq, PartialOrd, Ord, Debug)]
+pub enum Change {
+    Same,
+    Narrower,
 }
 
-// The gap of two events: that of j and i, where it stands already.
-fn gap_of(periods: &[u32], gaps: &[u32], i: usize, j: usize) -> u32
-    requires { GapAsks periods.now gaps.now i j }
+// For each two events of a network a span that holds the difference of their times in every fitting timetable. The spans stand in one row: in a row of
+// rows the proof of a span that is written (`narrow`, `widen_row`) did not close.
+#[derive(Drop)]
+pub struct Table<'a> {
+    pub network: Reduced<'a>,
+    pub spans: &'a mut [Span],
+    ghost spanned: { Spanned (lent network) spans.now },
+}
+
+// The place of two events.
+pub fn place(i: usize, j: usize) -> usize
+    requires { (i < EVENTS) × (j < EVENTS) }
+    ensures { result ≡ spot i j }
+{
+    EVENTS * i + j
+}
+
+// The gap of two events: that of j and i, where it stands already. There is no `Table` yet, so that periods and spans stand apart.
+fn gap_of(periods: &[u32], spans: &[Span], i: usize, j: usize) -> u32
+    requires { GapAsks periods.now spans.now i j }
     ensures { IsGcd (at periods.now i) (at periods.now j) result }
 {
     if j < i {
-        return gaps[64 * j + i];
+        return spans[place(j, i)].gap;
     }
     numbers::gcd(periods[i], periods[j])
 }
 
-// Gives event i and each other their gap, and a span that holds every difference.
-fn widen_row(periods: &[u32], lows: &mut [u32], widths: &mut [u32], gaps: &mut [u32], i: usize)
-    requires { WidenAsks periods.now (table lows.old widths.old gaps.old) i }
-    ensures { Widening periods.now (table lows.new widths.new gaps.new) (i + 1) 0 }
+// Gives event i and each other their gap, and a span that holds every difference. There is no `Table` yet here either.
+fn widen_row(periods: &[u32], spans: &mut [Span], i: usize)
+    requires { WidenAsks periods.now spans.old i }
+    ensures { Widening periods.now spans.new (i + 1) 0 }
 {
-    let mut j = 0;
-    while j < periods.len() {
-        let there = 64 * i + j;
-        let gap = gap_of(periods, &gaps[..], i, j);
-        lows[there] = 0;
-        widths[there] = gap - 1;
-        gaps[there] = gap;
-        j += 1;
+    for j in 0..periods.len() {
+        let gap = gap_of(periods, spans, i, j);
+        let width = gap - 1;
+        let wide = Span { low: 0, width, gap };
+        spans[place(i, j)] = wide;
     }
-}
-
-// Gives each two events theirs.
-pub fn widen(periods: &[u32], lows: &mut [u32], widths: &mut [u32], gaps: &mut [u32])
-    requires { OpenAsks periods.now (table lows.old widths.old gaps.old) }
-    ensures { Opened periods.now (table lows.new widths.new gaps.new) }
-{
-    let mut i = 0;
-    while i < periods.len() {
-        widen_row(periods, lows, widths, gaps, i);
-        i += 1;
-    }
-}
-
-// Narrows the span of i and j by another: 0 if nothing is left, 1 if it stays, 2 if it is less wide.
-pub fn narrow(
-    lows: &mut [u32],
-    widths: &mut [u32],
-    gaps: &[u32],
-    i: usize,
-    j: usize,
-    low: u32,
-    width: u32,
-) -> u32
-    requires { NarrowAsks (table lows.old widths.old gaps.now) i j low width }
-    ensures { Narrowed (table lows.old widths.old gaps.now) i j low width (table lows.new widths.new gaps.now) result }
-{
-    let there = 64 * i + j;
-    let back = 64 * j + i;
-    let gap = gaps[there];
-    let old = widths[there];
-    let s = cut(gap, lows[there], old, low, width);
-    if !s.some {
-        return 0;
-    }
-    if old <= s.width {
-        return 1;
-    }
-    lows[there] = s.low;
-    lows[back] = turned(gap, s.low, s.width);
-    widths[there] = s.width;
-    widths[back] = s.width;
-    2
 }
 
 // What a gap leaves of a period: nothing of itself, without a division.
@@ -95,96 +73,94 @@ fn rest(period: u32, gap: u32) -> u32
     period % gap
 }
 
-// Narrows the span of i and j by those of i and k and of k and j, one after the other.
-fn via(
-    periods: &[u32],
-    lows: &mut [u32],
-    widths: &mut [u32],
-    gaps: &[u32],
-    i: usize,
-    k: usize,
-    j: usize,
-) -> u32
-    requires { Three periods.now (table lows.old widths.old gaps.now) i k j }
-    ensures { Tighter (Timed periods.now) periods.now (table lows.old widths.old gaps.now) (table lows.new widths.new gaps.now) result }
-{
-    let first = 64 * i + k;
-    let second = 64 * k + j;
-    let gap = gaps[64 * i + j];
-    let width = widths[first] + widths[second];
-    if gap <= width {
-        return 1;
-    }
-    if rest(periods[k], gap) != 0 {
-        return 1;
-    }
-    let low = (lows[first] + lows[second]) % gap;
-    narrow(lows, widths, gaps, i, j, low, width)
-}
+impl<'a> Table<'a> {
+    ghost use Rattle.closure.specs.Steps.{NarrowAsks, Step, Stays, events_of};
 
-// Narrows the spans of i and every later event through k.
-fn close_row(
-    periods: &[u32],
-    lows: &mut [u32],
-    widths: &mut [u32],
-    gaps: &[u32],
-    i: usize,
-    k: usize,
-) -> u32
-    requires { Pair periods.now (table lows.old widths.old gaps.now) i k }
-    ensures { Tighter (Timed periods.now) periods.now (table lows.old widths.old gaps.now) (table lows.new widths.new gaps.now) result }
-{
-    let mut status: u32 = 1;
-    let mut j = i + 1;
-    while j < periods.len() {
-        let r = via(periods, lows, widths, gaps, i, k, j);
-        if r == 0 {
-            return 0;
+    // Opens the table of a network: each two events get their gap, and a span that holds every difference.
+    pub fn widen(network: Reduced<'a>, spans: &'a mut [Span]) -> Table<'a>
+        requires { OpenAsks network.periods.now spans.old }
+        ensures { result.network ≡ network.entry }
+    {
+        for i in 0..network.periods.len() {
+            widen_row(network.periods, spans, i);
         }
-        status = greater(status, r);
-        j += 1;
+        Table { network, spans }
     }
-    status
-}
 
-// Narrows all spans through k.
-fn close_through(
-    periods: &[u32],
-    lows: &mut [u32],
-    widths: &mut [u32],
-    gaps: &[u32],
-    k: usize,
-) -> u32
-    requires { Through periods.now (table lows.old widths.old gaps.now) k }
-    ensures { Tighter (Timed periods.now) periods.now (table lows.old widths.old gaps.now) (table lows.new widths.new gaps.now) result }
-{
-    let mut status: u32 = 1;
-    let mut i = 0;
-    while i < periods.len() {
-        let r = close_row(periods, lows, widths, gaps, i, k);
-        if r == 0 {
-            return 0;
+    // Narrows the span of i and j by another, or none where nothing is left.
+    pub fn narrow(&mut self, i: usize, j: usize, by: Span) -> Option<Change>
+        requires { NarrowAsks self.old i j by }
+        ensures step { Step self.old self.new result }
+        ensures stays { Stays self.old self.new result }
+    {
+        let there = place(i, j);
+        let back = place(j, i);
+        let old = self.spans[there];
+        let span = old.cut(by)?;
+        if old.width <= span.width {
+            return Some(Change::Same);
         }
-        status = greater(status, r);
-        i += 1;
+        self.spans[there] = span;
+        self.spans[back] = span.turned();
+        Some(Change::Narrower)
     }
-    status
-}
 
-// Narrows all spans through every event.
-pub fn close_round(periods: &[u32], lows: &mut [u32], widths: &mut [u32], gaps: &[u32]) -> u32
-    requires { Shaped periods.now (table lows.old widths.old gaps.now) }
-    ensures { Tighter (Timed periods.now) periods.now (table lows.old widths.old gaps.now) (table lows.new widths.new gaps.now) result }
-{
-    let mut status: u32 = 1;
-    let mut k = 0;
-    while k < periods.len() {
-        let r = close_through(periods, lows, widths, gaps, k);
-        if r == 0 {
-            return 0;
+    // Narrows the span of i and j by those of i and k and of k and j, one after the other.
+    fn via(&mut self, i: usize, k: usize, j: usize) -> Option<Change>
+        requires { (i < events_of self.old) × (k < events_of self.old) × (j < events_of self.old) }
+        ensures { Step self.old self.new result }
+    {
+        let first = self.spans[place(i, k)];
+        let second = self.spans[place(k, j)];
+        let gap = self.spans[place(i, j)].gap;
+        let width = first.width + second.width;
+        if gap <= width {
+            return Some(Change::Same);
         }
-        status = greater(status, r);
-        k += 1;
+        if rest(self.network.periods[k], gap) != 0 {
+            return Some(Change::Same);
+        }
+        let low = (first.low + second.low) % gap;
+        let both = Span { low, width, gap };
+        self.narrow(i, j, both)
     }
-    status
+
+    // Narrows the spans of i and every later event through k. The three loops are alike, but each has its own range and step: one over a closure, with a
+    // contract for the step, would be no plainer.
+    fn close_row(&mut self, i: usize, k: usize) -> Option<Change>
+        requires { (i < events_of self.old) × (k < events_of self.old) }
+        ensures { Step self.old self.new result }
+    {
+        let mut change = Change::Same;
+        for j in i + 1..self.network.periods.len() {
+            let step = self.via(i, k, j)?;
+            change = change.max(step);
+        }
+        Some(change)
+    }
+
+    // Narrows all spans through k.
+    fn close_through(&mut self, k: usize) -> Option<Change>
+        requires { k < events_of self.old }
+        ensures { Step self.old self.new result }
+    {
+        let mut change = Change::Same;
+        for i in 0..self.network.periods.len() {
+            let step = self.close_row(i, k)?;
+            change = change.max(step);
+        }
+        Some(change)
+    }
+
+    // Narrows all spans through every event.
+    pub fn close_round(&mut self) -> Option<Change>
+        ensures { Step self.old self.new result }
+    {
+        let mut change = Change::Same;
+        for k in 0..self.network.periods.len() {
+            let step = self.close_through(k)?;
+            change = change.max(step);
+        }
+        Some(change)
+    }
 }

@@ -1,9 +1,9 @@
 // Solves network A of the scope paper and prints its timetable, its tensions with their slacks, and its cost.
 #![tactic(auto)]
 
-ghost use Rattle.std.specs.Prelude.{◌≡◌, length};
-
+use network::Network;
 use std::io;
+use timetable::solve::solve;
 
 const PERIODS: [u32; 3] = [60, 60, 60];
 
@@ -33,33 +33,32 @@ fn print_arc(rt: &impl Print, arc: usize, tension: i32, lower: i32) -> io::Resul
 }
 
 // Writes a line for each arc.
-fn print_arcs(rt: &impl Print, tensions: &[i32], lower: &[i32]) -> io::Result<()>
-    requires { length lower.now ≡ length tensions.now }
-{
+fn print_arcs(rt: &impl Print, tensions: &[i32], lower: &[i32]) -> io::Result<()> {
     println!(rt; "arc,tension,slack")?;
-    for arc in 0..tensions.len() {
-        print_arc(rt, arc, tensions[arc], lower[arc])?;
+    for (arc, (tension, lower)) in tensions.iter().zip(lower).enumerate() {
+        print_arc(rt, arc, *tension, *lower)?;
     }
     Ok(())
 }
 
 fn main(rt: HostRuntime) -> io::Result<()> {
+    let network = Network {
+        periods: &PERIODS,
+        tails: &TAIL,
+        heads: &HEAD,
+        lowers: &LOWER,
+        uppers: &UPPER,
+        weights: &WEIGHT,
+    };
     let mut times = [0u32; 3];
     let mut tensions = [0i32; 3];
     let mut turns = [0i32; 3];
-    let answer = timetable::solve::solve(
-        &PERIODS,
-        &TAIL,
-        &HEAD,
-        &LOWER,
-        &UPPER,
-        &WEIGHT,
-        &mut times,
-        &mut tensions,
-        &mut turns,
-    );
+    let cost = match solve(&network, &mut times, &mut tensions, &mut turns) {
+        Ok(cost) => cost,
+        Err(refused) => return println!(rt; "refused by code {}", refused.code as u32),
+    };
     print_times(&rt, &times)?;
     print_arcs(&rt, &tensions, &LOWER)?;
     println!(rt; "cost")?;
-    println!(rt; "{}", answer.cost)
+    println!(rt; "{cost}")
 }

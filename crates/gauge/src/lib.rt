@@ -1,16 +1,59 @@
 // What the closure makes of a network, exported for the tests: no contract says how strong the closure is, so they hold it to numbers that are known.
 #![tactic(auto)]
 
+ghost use Rattle.std.specs.Prelude.{◌≡◌, ◌*◌, ◌≤◌, ◌++◌, length, drop};
 ghost use Rattle.network.specs.Network.{net_at};
-ghost use Rattle.gauge.specs.Gauge.{Shows};
+ghost use Rattle.network.specs.Refusals.{number};
+ghost use Rattle.gauge.specs.Gauge.{gauge, numbers, Shows};
 
-// A code of the table, or 0 and what the closure answered.
+use closure::ROOM;
+use network::{Code, Network};
+use search::{Bar, NO_BAR};
+
+// How many numbers stand in the row for an arc.
+const NUMBERS: usize = 5;
+
+// A code of the table, or 0 and what the closure answered: 0 rounds where nothing fits.
 #[repr(C)]
 #[derive(Drop)]
 pub struct Gauge {
     pub code: u32,
     pub rounds: u32,
     pub arcs: u64,
+}
+
+// What is shown under a code of the table.
+fn refused(code: Code) -> Gauge
+    ensures { result.code ≡ number code }
+{
+    Gauge {
+        code: code as u32,
+        rounds: 0,
+        arcs: 0,
+    }
+}
+
+// What is shown under code 0.
+fn shown(rounds: u32, arcs: usize) -> Gauge
+    ensures { result ≡ gauge 0 rounds arcs }
+{
+    Gauge {
+        code: 0,
+        rounds,
+        arcs: arcs as u64,
+    }
+}
+
+// Writes the five numbers of each arc from the row's beginning, side by side for the C interface.
+fn write_arcs(bars: &[Bar], row: &mut [u32])
+    requires { NUMBERS * length bars.now ≤ length row.old }
+    ensures { row.new ≡ numbers bars.now ++ drop (NUMBERS * length bars.now) row.old }
+{
+    for (arc, bar) in bars.iter().enumerate() {
+        let place = NUMBERS * arc;
+        let five = [bar.near, bar.last, bar.shift, bar.run, bar.gap];
+        row[place..place + NUMBERS].copy_from_slice(&five);
+    }
 }
 
 // Writes the longer network, five numbers for each arc, into a row of exactly 11,360 entries; code 9 where the row has another length.
@@ -26,25 +69,25 @@ pub extern "C" fn rubblewaltz_gauge(
 ) -> Gauge
     ensures { Shows (net_at periods tail head lower upper weight) longer.new result }
 {
-    let found = network::table::refusal(periods, tail, head, lower, upper, weight, tail.len());
-    if found.code != 0 {
-        return Gauge {
-            code: found.code,
-            rounds: 0,
-            arcs: 0,
-        };
+    let network = Network {
+        periods,
+        tails: tail,
+        heads: head,
+        lowers: lower,
+        uppers: upper,
+        weights: weight,
+    };
+    let network = match network.judge(network.arcs()) {
+        Ok(network) => network,
+        Err(found) => return refused(found.code),
+    };
+    if longer.len() != NUMBERS * ROOM {
+        return refused(Code::Room);
     }
-    if longer.len() != 11360 {
-        return Gauge {
-            code: 9,
-            rounds: 0,
-            arcs: 0,
-        };
-    }
-    let closed = closure::lengthen(periods, tail, head, lower, upper, weight, longer);
-    Gauge {
-        code: 0,
-        rounds: closed.rounds,
-        arcs: closed.arcs as u64,
-    }
+    let mut bars = [NO_BAR; ROOM];
+    let Some(closed) = closure::lengthen(&network, &mut bars) else {
+        return shown(0, 0);
+    };
+    write_arcs(&bars[..closed.arcs], longer);
+    shown(closed.rounds, closed.arcs)
 }

@@ -3,6 +3,7 @@ pub mod Scans
 pub mod Refusing
 pub mod Sound
 pub mod Trials
+pub mod Ranges
 pub mod Arcs
 pub mod Width
 pub mod Times

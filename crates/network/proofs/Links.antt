@@ -21,7 +21,7 @@ use Rattle.network.specs.Network.{Network, events, arcs, tail, head, lower, uppe
 use Rattle.network.specs.PublicRule.{arc_period, working_by, working, width_of, offset_of}
 use Rattle.network.specs.Table.{repeats}
 use Rattle.network.specs.Trial.{Inside, Sound, ArcOf}
-use Rattle.network.specs.Pairs.{AsksWidth, TwoArcs, same_rule, Last, Linked, Chained, Down, AsksTwin, Twin}
+use Rattle.network.specs.Pairs.{AsksWidth, TwoArcs, same_rule, Last, Linked, Chained, Down, AsksTwin}
 use Rattle.network.proofs.Scans.{same_test}
 use Rattle.network.proofs.Arcs.{in_heads, in_lowers, in_uppers}
 use Rattle.network.proofs.Repeats.{same-period, no_repeat}
@@ -97,10 +97,6 @@ down_more {N} {b} {c} {d} p h e l = record {
     go a k m (yes n) = below a k (eq-or-lt_of_le (omega arith))
     go a k m (no n) = p.none a (omega (arith, n)) m
 
--- at the end of them
-pub twin_none : {N : Network} {b c : ℕ} → Down N b c → c ≡ 0 → Twin N b b
-twin_none p e = record { found = λ h. absurd (omega arith); none = λ h a k. p.none a (omega arith) k }
-
 -- ---- one arc more is linked
 
 -- before the first: two rows of zeros
@@ -113,10 +109,10 @@ chained_none s h k z = record {
 }
 
 module _ {N : Network} {lasts befores : List ℕ} {k : ℕ} (c : AsksTwin N lasts befores k) where
-  pub event_in : tail N k < length lasts
+  event_in : tail N k < length lasts
   event_in = omega (arith, c.chained.long, (c.chained.linked.sound.ends k c.arc).tail_in)
 
-  pub arc_in : k < length befores
+  arc_in : k < length befores
   arc_in = omega (arith, c.chained.linked.long, c.arc)
 
   -- its own link
@@ -134,8 +130,8 @@ module _ {N : Network} {lasts befores : List ℕ} {k : ℕ} (c : AsksTwin N last
       go a (inl q) = rw q (rw (get_or-set_same befores k (at lasts (tail N k)) 0 arc_in) last_here)
       go a (inr l) = rw (get_or-set_other befores k a (at lasts (tail N k)) 0 (λ q. omega arith)) (c.chained.linked.each a l)
 
-  pub chained_more : Chained N (set lasts (tail N k) (k + 1)) (set befores k (at lasts (tail N k))) (k + 1)
-  chained_more = record {
+  chained_here : Chained N (set lasts (tail N k) (k + 1)) (set befores k (at lasts (tail N k))) (k + 1)
+  chained_here = record {
     linked = linked_more;
     long = length-set lasts (tail N k) (k + 1) ∙ c.chained.long;
     each = λ v h. go v h (eqb v (tail N k)) refl;
@@ -156,3 +152,6 @@ module _ {N : Network} {lasts befores : List ℕ} {k : ℕ} (c : AsksTwin N last
           let l = c.chained.each v h in
           rw (get_or-set_other lasts (tail N k) v (k + 1) 0 n)
           (record { within = omega (arith, l.within); own = l.own; none = λ a m p. more v n a m l (eq-or-lt_of_le (omega arith)) })
+
+  pub chained_more : {v : ℕ} → v ≡ tail N k → Chained N (set lasts v (k + 1)) (set befores k (at lasts v)) (k + 1)
+  chained_more e = rw e chained_here

@@ -4,9 +4,11 @@ use mathlib.Core.List.{List, [], ◌∷◌, ◌++◌}
 use mathlib.Core.Bool.{Bool, true, false, ◌&&◌}
 use Prim.Native.Nat.{ℕ, ◌<◌}
 use native.Mathlib.Omega.{arith}
-use borrow.Author.Tests.{lt-ltb, le-ltb, ltb-true, ltb-false, eqb-true, eqb-false}
+use borrow.Author.Tests.{ltb-true, ltb-false, eqb-true, eqb-false}
 use lib.IntN.{pos, ◌-ℤ◌}
-use lib.Dec.{ltb, eqb, leb}
+use lib.Dec.{eqb, leb}
+use Rattle.std.specs.Prelude.{Option, Some, None}
+use Rattle.std.specs.Option.{is_some}
 use Rattle.numbers.specs.Divisor.{gcd}
 use Rattle.numbers.specs.Remainder.{remainder}
 use Rattle.numbers.specs.Row.{at}
@@ -122,33 +124,28 @@ unfolding named refusals_with
 distinct {N} w a b h k = not_repeated N b ((clear 18 (all_clear N w)).nowhere b k) a h
 
 -- what a search among the arcs before b found
-pub twin_found : {N : Network} {b r : ℕ} → r < b → repeats N r b ≡ true → Twin N b r
-twin_found h e = record { found = λ k. e; none = λ k. absurd (omega arith) }
-
-pub twin_is : {N : Network} {b r : ℕ} → Twin N b r → ltb r b ≡ repeated N b
+pub twin_is : (N : Network) (b : ℕ) (r : Option ℕ) → Twin N b r → repeated N b ≡ is_some r
 unfolding repeated
-twin_is {N} {b} {r} w = go (ltb r b) (repeated N b) refl refl
+twin_is N b r w = go (repeated N b) r refl w
   where
     t : ℕ → Bool
     t a = repeats N a b
 
-    go : (p q : Bool) → ltb r b ≡ p → repeated N b ≡ q → p ≡ q
-    go true true e f = refl
-    go true false e f =
-        let h : r < b = ltb-true r b e in
-        absurd (true_false (w.found h) (not_repeated N b f r h))
-    go false true e f =
-        let h : first t b < b = ltb-true (first t b) b f in
-        absurd (true_false ((first_is t b).found h) (w.none (ltb-false r b e) (first t b) h))
-    go false false e f = refl
+    go : (q : Bool) (r : Option ℕ) → repeated N b ≡ q → Twin N b r → q ≡ is_some r
+    go true (Some a) e w = refl
+    go false (Some a) e w = absurd (true_false w.1 (not_repeated N b e a w.0))
+    go true None e w =
+        let h : first t b < b = ltb-true (first t b) b e in
+        absurd (true_false ((first_is t b).found h) (w (first t b) h))
+    go false None e w = refl
 
 -- ---- and the other way round: the first pair is refused where none of the lines before 18 applies
 
 pair_is : {N : Network} {b : ℕ} → FirstPair N b → First (repeated N) (arcs N) b
 pair_is {N} {b} p = record {
   within = omega (arith, p.arc);
-  before = λ d h. sym (twin_is (record { found = λ k. absurd (omega arith); none = λ k a l. p.none_before a d l h })) ∙ le-ltb d d (omega arith);
-  found = λ h. sym (twin_is (twin_found p.earlier p.again)) ∙ lt-ltb p.partner b p.earlier;
+  before = λ d h. twin_is N d None (λ a l. p.none_before a d l h);
+  found = λ h. twin_is N b (Some p.partner) (p.earlier, p.again);
 }
 
 pub pair_refused : {N : Network} {b : ℕ} (further : ℕ) → OnlyRepeats N further → FirstPair N b → refusal_of N further ≡ answer 18 b 0

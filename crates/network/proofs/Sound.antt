@@ -126,10 +126,6 @@ long_with N further c = (even_of N further ((clear 3 c).nowhere 0 (omega arith))
 pub well_with : (N : Network) (further : ℕ) → AllClear (refusals_with N further) → WellFormed N
 well_with N further c = well_formed N (subst (λ (k : ℕ). AllClear (refusals_with N k)) (long_with N further c) c)
 
--- as a call learns it
-pub well_of : {N : Network} {r : Answer} → r ≡ refusal_of N (arcs N) → r.code ≡ 0 → WellFormed N
-well_of e z = record { none = sym (ap (λ (a : Answer). a.code) e) ∙ z }
-
 -- from the lines before 18
 pub sound_of : (N : Network) (further : ℕ) → AllClear (take 8 (refusals_with N further)) → Sound N
 unfolding named refusals_with

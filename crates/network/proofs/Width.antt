@@ -1,6 +1,6 @@
 -- The working upper bound of an arc of a well-formed network: from lower up, less than the arc period above it, and the arc is met exactly up to
 -- its width of slack. Assumes nothing.
-use mathlib.Core.Path.{◌≡◌, refl, sym, ap, ◌∙◌}
+use mathlib.Core.Path.{◌≡◌, refl, sym, ◌∙◌}
 use mathlib.Core.List.{List}
 use mathlib.Core.Bool.{Bool, true, false, cond}
 use Prim.Native.Nat.{ℕ, ◌+◌, ◌≤◌, ◌<◌}
@@ -13,7 +13,7 @@ use Rattle.numbers.proofs.Integers.{up, dn, zed, of_le, of_sum, of_sub, le_z_tru
 use Rattle.numbers.proofs.Remainders.{remainder-below}
 use Rattle.numbers.specs.Row.{at}
 use Rattle.network.specs.Network.{Network, arcs, tail, head, lower, upper}
-use Rattle.network.specs.PublicRule.{arc_period, slack, tension, met, lesser, working_by, working, width_of}
+use Rattle.network.specs.PublicRule.{arc_period, slack, tension, met, working_by, working, width_of}
 use Rattle.network.specs.Trial.{Sound}
 use Rattle.network.proofs.Scans.{same_test}
 use Rattle.network.proofs.Sound.{arc-period}
@@ -38,10 +38,6 @@ apart_is l w h =
 
 pub apart_below : (l w : ℤ) {g : ℕ} → l ≤ℤ w → (w -ℤ l) <ℤ pos g → nat_abs (w -ℤ l) < g
 apart_below l w h k = omega (arith, zed, apart_is l w h, k, of_sub w l)
-
--- the lesser is the one that the test finds
-pub lesser_is : (x y : ℤ) {b : Bool} → le_z x y ≡ b → cond b x y ≡ lesser x y
-lesser_is x y e = ap (λ (b : Bool). cond b x y) (sym e)
 
 yes : (x y : ℤ) → x ≤ℤ y → le_z x y ≡ true
 yes x y h = go (le_z x y) refl

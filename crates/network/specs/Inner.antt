@@ -1,7 +1,6 @@
 -- What inner functions ask of a well-formed network with a row of times, and what they say. Definitions alone.
 use Rattle.std.specs.Prelude.{◌≡◌, List, false, ℕ, ◌≤◌, ◌<◌, ℤ, nat_abs, ◌-ℤ◌, ◌≤ℤ◌, length}
-use Rattle.network.specs.Network.{Network, events, arcs}
-use Rattle.numbers.specs.Row.{at}
+use Rattle.network.specs.Network.{Network, events}
 use Rattle.network.specs.PublicRule.{Timetable, cost_of}
 use Rattle.network.specs.Table.{WellFormed}
 use Rattle.network.specs.Rows.{ArcRows, short_for, noted}
@@ -18,25 +17,10 @@ pub record Turning (g : ℕ) (low : ℤ) (from to : ℕ) : Type 0 where
   pub from_small : from < 3600
   pub to_small : to < 3600
 
--- a listed tension for each arc
-pub record Listed (N : Network) (x : List ℤ) : Type 0 where
-  pub well : WellFormed N
-  pub long : length x ≡ arcs N
-
 -- a time for each event
 pub record Timed (N : Network) (t : List ℕ) : Type 0 where
   pub well : WellFormed N
   pub long : length t ≡ events N
-
--- and one of the arcs
-pub record TimedArc (N : Network) (t : List ℕ) (a : ℕ) : Type 0 where
-  pub timed : Timed N t
-  pub arc : a < arcs N
-
--- an end of an arc: entry a of a row of ends is an event that has a time
-pub record TimedEnd (ends t : List ℕ) (a : ℕ) : Type 0 where
-  pub arc : a < length ends
-  pub event : at ends a < length t
 
 -- a timetable, and rows with an entry for each arc
 pub record Room (N : Network) (t : List ℕ) (rows : ArcRows) : Type 0 where

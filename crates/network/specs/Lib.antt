@@ -8,3 +8,4 @@ pub mod Rows
 pub mod Trial
 pub mod Pairs
 pub mod Inner
+pub mod Judged

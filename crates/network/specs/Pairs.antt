@@ -1,5 +1,5 @@
 -- How two arcs are compared: what the functions of the scan for code 18 ask and say. Definitions alone.
-use Rattle.std.specs.Prelude.{◌≡◌, List, Bool, true, false, ◌&&◌, ℕ, ◌-◌, ◌≤◌, ◌<◌, ℤ, pos, nat_abs, ◌+ℤ◌, ◌-ℤ◌, ◌≤ℤ◌, length, eqb}
+use Rattle.std.specs.Prelude.{◌≡◌, List, Bool, true, false, ◌&&◌, Option, Some, None, ℕ, ◌-◌, ◌≤◌, ◌<◌, ℤ, pos, nat_abs, ◌+ℤ◌, ◌-ℤ◌, ◌≤ℤ◌, length, eqb}
 use Rattle.numbers.specs.Remainder.{remainder}
 use Rattle.numbers.specs.Row.{at, at_ℤ}
 use Rattle.network.specs.Network.{Network, events, arcs, tail}
@@ -63,7 +63,7 @@ pub record AsksMatched (N : Network) (befores : List ℕ) (b c : ℕ) : Type 0 w
   pub arc : b < arcs N
   pub down : Down N b c
 
--- r is an arc before b that b repeats; or it is no arc before b, and b repeats none
-pub record Twin (N : Network) (b r : ℕ) : Type 0 where
-  pub found : r < b → repeats N r b ≡ true
-  pub none : b ≤ r → (a : ℕ) → a < b → repeats N a b ≡ false
+-- an arc before b that b repeats; or b repeats none
+abbrev pub Twin : Network → ℕ → Option ℕ → Type 0
+Twin N b (Some r) = (r < b) × (repeats N r b ≡ true)
+Twin N b None = (a : ℕ) → a < b → repeats N a b ≡ false

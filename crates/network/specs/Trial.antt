@@ -1,12 +1,17 @@
 -- How the table is worked down: the order of the codes, and what the test of a code asks. For inner functions. Definitions alone.
-use Rattle.std.specs.Prelude.{◌≡◌, List, [], ◌∷◌, cond, ℕ, ◌≤◌, ◌<◌, nat_abs, ◌≤ℤ◌, length, eqb, leb}
+use Rattle.std.specs.Prelude.{◌≡◌, List, [], ◌∷◌, cond, ℕ, ◌≤◌, ◌<◌, nat_abs, ◌≤ℤ◌, length, eqb, leb, slice_index_or}
+use Rattle.network.specs.declared.Code.{Code}
+use Rattle.network.specs.declared.Code.TheVariants.{EventCount, Period, ArcRows, Ends as EndsCode, Loop, Lower, Upper, Weight, Repeat}
 use Rattle.network.specs.Network.{Network, events, arcs, period, tail, head, lower, upper, weight}
-use Rattle.network.specs.First.{First}
+use Rattle.network.specs.Refusals.{number}
 use Rattle.network.specs.Table.{line}
 
--- the codes as they are tried
-abbrev pub order : List ℕ
-order = 1 ∷ 2 ∷ 3 ∷ 4 ∷ 5 ∷ 6 ∷ 7 ∷ 8 ∷ 18 ∷ []
+-- the codes as they are tried, and the one that is tried after k others
+abbrev pub order : List Code
+order = EventCount ∷ Period ∷ ArcRows ∷ EndsCode ∷ Loop ∷ Lower ∷ Upper ∷ Weight ∷ Repeat ∷ []
+
+abbrev pub code_at : ℕ → Code
+code_at k = slice_index_or order k EventCount
 
 -- how many places a code is tried at: each event, once, each arc
 unfoldable pub places_of : ℕ → ℕ → ℕ → ℕ
@@ -52,21 +57,14 @@ pub record ArcOf (N : Network) (a : ℕ) : Type 0 where
   pub sound : Sound N
   pub arc : a < arcs N
 
--- what the lines before that of a code leave to its test
-pub record Asks (N : Network) (code : ℕ) : Type 0 where
+-- the code has a line, and what those before it leave to its test
+pub record Asks (N : Network) (further code : ℕ) : Type 0 where
+  pub places_are : places_of code (events N) (arcs N) ≡ (line N further code).places
   pub even : 3 < code → Even N
   pub sound : code ≡ 18 → Sound N
 
 -- a test of a code at place i; that of 18 compares two arcs and has a scan of its own
-pub record AsksAt (N : Network) (further code i : ℕ) : Type 0 where
-  pub asks : Asks N code
-  pub place : i < (line N further code).places
-  pub one : code ≡ 18 → ⊥
-
--- a scan of the places of a code
-pub record AsksScan (N : Network) (further code count : ℕ) : Type 0 where
-  pub asks : Asks N code
-  pub count_is : count ≡ (line N further code).places
-
-pub record Scanned (N : Network) (further code k : ℕ) : Type 0 where
-  pub first : First (line N further code).applies (line N further code).places k
+pub record AsksAt (N : Network) (further : ℕ) (code : Code) (i : ℕ) : Type 0 where
+  pub asks : Asks N further (number code)
+  pub place : i < (line N further (number code)).places
+  pub one : code ≡ Repeat → ⊥

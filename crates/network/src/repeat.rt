@@ -1,14 +1,16 @@
 // The same rule entered twice: the first arc that repeats an earlier one.
 ghost use Rattle.std.specs.Prelude.{◌≡◌, ◌≤◌, ◌<◌, pos, nat_abs, ◌+ℤ◌, ◌-ℤ◌};
 ghost use Rattle.numbers.specs.Remainder.{remainder};
-ghost use Rattle.network.specs.Network.{net_of, net_at, arcs};
+ghost use Rattle.network.specs.Network.{arcs};
 ghost use Rattle.network.specs.PublicRule.{working_by};
-ghost use Rattle.network.specs.First.{First};
+ghost use Rattle.network.specs.First.{FirstOf};
 ghost use Rattle.network.specs.Table.{repeated};
 ghost use Rattle.network.specs.Trial.{Sound};
 ghost use Rattle.network.specs.Pairs.{AsksWidth, TwoArcs, same_rule, Chained, AsksTwin, AsksMatched, Twin};
 
-use crate::rule::{arc_period, bound, entry, width, working};
+use crate::Network;
+use crate::rule::{width, working};
+use crate::table::{MOST_ARCS, MOST_EVENTS, MOST_LOWER};
 
 // What a lower bound leaves by g, counted from -7,200, the least that there is: no number is then below zero, and the machine's remainder serves.
 #[tactic(auto, unfolding(numbers::specs::Remainder::remainder))]
@@ -16,7 +18,7 @@ fn offset(g: u32, low: i32) -> u32
     requires { (0 < g) × (nat_abs low ≤ 7200) }
     ensures { result ≡ remainder (low +ℤ pos 7200) g }
 {
-    ((low + 7200) as u32) % g
+    ((low + MOST_LOWER) as u32) % g
 }
 
 // The working upper bound less lower.
@@ -29,149 +31,81 @@ fn working_width(g: u32, low: i32, high: i32) -> u32
 
 // Has arc a the head of arc b, and by the period g this offset and this width?
 #[tactic(auto, unfolding(crate::specs::Pairs::same_rule))]
-fn same_rule(
-    head: &[u32],
-    lower: &[i32],
-    upper: &[i32],
-    g: u32,
-    left: u32,
-    wide: u32,
-    a: usize,
-    b: usize,
-) -> bool
-    requires { TwoArcs head.now lower.now upper.now g a b }
-    ensures { result ≡ same_rule head.now lower.now upper.now g left wide a b }
+fn is_same_rule(network: &Network, g: u32, left: u32, wide: u32, a: usize, b: usize) -> bool
+    requires { TwoArcs network.now.heads network.now.lowers network.now.uppers g a b }
+    ensures { result ≡ same_rule network.now.heads network.now.lowers network.now.uppers g left wide a b }
 {
-    if entry(head, a) != entry(head, b) {
+    if network.head(a) != network.head(b) {
         return false;
     }
-    let low = bound(lower, a);
-    if offset(g, low) != left {
-        return false;
-    }
-    working_width(g, low, bound(upper, a)) == wide
+    let low = network.lower(a);
+    offset(g, low) == left && working_width(g, low, network.upper(a)) == wide
 }
 
-// From link `from` down, an arc that this one repeats, or its own number. Its own offset and width are worked out once.
-fn matched(
-    periods: &[u32],
-    tail: &[u32],
-    head: &[u32],
-    lower: &[i32],
-    upper: &[i32],
-    weight: &[u32],
-    befores: &[u32],
-    arc: usize,
-    from: usize,
-) -> usize
-    requires { AsksMatched (net_of periods tail head lower upper weight) befores.now arc from }
-    ensures { Twin (net_at periods tail head lower upper weight) arc result }
+// From this link down, an arc that this one repeats: the loop follows the links. Its own offset and width are worked out once.
+fn matched(network: &Network, befores: &[u32], arc: usize, from: usize) -> Option<usize>
+    requires { AsksMatched network.now befores.now arc from }
+    ensures { Twin network.now arc result }
 {
-    let g = arc_period(periods, tail, head, lower, upper, weight, arc);
-    let low = bound(lower, arc);
+    let g = network.arc_period(arc);
+    let low = network.lower(arc);
     let left = offset(g, low);
-    let wide = working_width(g, low, bound(upper, arc));
+    let wide = working_width(g, low, network.upper(arc));
     let mut next = from;
     while 0 < next {
         let other = next - 1;
-        if same_rule(head, lower, upper, g, left, wide, other, arc) {
-            return other;
+        if is_same_rule(network, g, left, wide, other, arc) {
+            return Some(other);
         }
-        next = entry(befores, other);
+        next = befores[other] as usize;
     }
-    arc
+    None
 }
 
-// An arc before this one that it repeats, or its own number. Only arcs that start where it does are looked at, and bounds only where the heads agree.
-fn twin(
-    periods: &[u32],
-    tail: &[u32],
-    head: &[u32],
-    lower: &[i32],
-    upper: &[i32],
-    weight: &[u32],
-    lasts: &[u32],
-    befores: &[u32],
-    arc: usize,
-) -> usize
-    requires { AsksTwin (net_of periods tail head lower upper weight) lasts.now befores.now arc }
-    ensures { Twin (net_at periods tail head lower upper weight) arc result }
+// An arc before this one that it repeats. The loop follows the links of the arcs that start where it does, and bounds are looked at only where the heads agree.
+fn twin(network: &Network, lasts: &[u32], befores: &[u32], arc: usize) -> Option<usize>
+    requires { AsksTwin network.now lasts.now befores.now arc }
+    ensures { Twin network.now arc result }
 {
-    let mut next = entry(lasts, entry(tail, arc));
+    let mut next = lasts[network.tail(arc)] as usize;
     while 0 < next {
         let other = next - 1;
-        if entry(head, other) == entry(head, arc) {
-            return matched(
-                periods, tail, head, lower, upper, weight, befores, arc, next,
-            );
+        if network.head(other) == network.head(arc) {
+            return matched(network, befores, arc, next);
         }
-        next = entry(befores, other);
+        next = befores[other] as usize;
     }
-    arc
+    None
 }
 
-// The first arc that repeats an earlier one, or the number of arcs, over rows that link each arc passed to the last before it with the same tail.
-fn scan(
-    periods: &[u32],
-    tail: &[u32],
-    head: &[u32],
-    lower: &[i32],
-    upper: &[i32],
-    weight: &[u32],
-    lasts: &mut [u32],
-    befores: &mut [u32],
-) -> usize
-    requires { Chained (net_of periods tail head lower upper weight) lasts.old befores.old 0 }
-    ensures { First (repeated (net_at periods tail head lower upper weight)) (arcs (net_at periods tail head lower upper weight)) result }
+// The first arc that repeats an earlier one, over rows that link each arc passed to the last before it with the same tail.
+// A link is one more than its arc, and 0 for none: rows of `Option<u8>` were tried, and the scan is slower, by a third at 60 arcs (measured).
+#[tactic(auto, using(crate::proofs::Scans::first_hit, crate::proofs::Repeats::twin_is))]
+fn scan(network: &Network, lasts: &mut [u32], befores: &mut [u32]) -> Option<usize>
+    requires { Chained network.now lasts.old befores.old 0 }
+    ensures { FirstOf (repeated network.now) (arcs network.now) result }
 {
-    let mut arc = 0;
-    while arc < tail.len() {
-        let earlier = twin(
-            periods,
-            tail,
-            head,
-            lower,
-            upper,
-            weight,
-            &lasts[..],
-            &befores[..],
-            arc,
-        );
-        if earlier < arc {
-            return arc;
+    for arc in 0..network.arcs() {
+        if twin(network, &lasts[..], &befores[..], arc).is_some() {
+            return Some(arc);
         }
-        let event = entry(tail, arc);
+        let event = network.tail(arc);
         befores[arc] = lasts[event];
-        lasts[event] = (arc + 1) as u32;
-        arc += 1;
+        lasts[event] = arc as u32 + 1;
     }
-    arc
+    None
 }
 
 // The same over rows of its own.
-pub fn first_repeat(
-    periods: &[u32],
-    tail: &[u32],
-    head: &[u32],
-    lower: &[i32],
-    upper: &[i32],
-    weight: &[u32],
-) -> usize
-    requires { Sound (net_of periods tail head lower upper weight) }
-    ensures { First (repeated (net_at periods tail head lower upper weight)) (arcs (net_at periods tail head lower upper weight)) result }
+pub fn first_repeat(network: &Network) -> Option<usize>
+    requires { Sound network.now }
+    ensures { FirstOf (repeated network.now) (arcs network.now) result }
 {
-    let n = periods.len();
-    let m = tail.len();
-    let mut lasts = [0u32; 64];
-    let mut befores = [0u32; 256];
+    let mut lasts = [0u32; MOST_EVENTS];
+    let mut befores = [0u32; MOST_ARCS];
     scan(
-        periods,
-        tail,
-        head,
-        lower,
-        upper,
-        weight,
-        &mut lasts[..n],
-        &mut befores[..m],
+        network,
+        &mut lasts[..network.events()],
+        &mut befores[..network.arcs()],
     )
 }

@@ -1,173 +1,127 @@
-// The network's first refusal: one scan for all lines of the table.
-ghost use Rattle.std.specs.Prelude.{◌≡◌};
-ghost use Rattle.network.specs.Network.{net_of, net_at};
-ghost use Rattle.network.specs.Table.{outside as outside_of, uneven as uneven_of, strays as strays_of, refusal_of, line};
-ghost use Rattle.network.specs.Trial.{places_of, AsksAt, AsksScan, Scanned};
+// A network judged: its first refusal by one scan for all lines of the table, or that it is well-formed.
+ghost use Rattle.std.specs.Prelude.{◌≡◌, ◌<◌, length};
+ghost use Rattle.network.specs.First.{FirstOf};
+ghost use Rattle.network.specs.Judged.{Judged};
+ghost use Rattle.network.specs.Network.{events, arcs, tail, head};
+ghost use Rattle.network.specs.Refusals.{number};
+ghost use Rattle.network.specs.Table.{outside, uneven, strays as strays_of, line};
+ghost use Rattle.network.specs.Trial.{places_of, Asks, AsksAt};
 
-use crate::Answer;
 use crate::repeat::first_repeat;
-use crate::rule::{bound, entry, outside_signed};
+use crate::{Code, Network, Refused, WellFormed};
+
+// How many events a network has at most.
+pub const MOST_EVENTS: usize = 64;
+
+// How many arcs a network has at most.
+pub const MOST_ARCS: usize = 256;
+
+// How far from 0 a lower bound is at most.
+pub const MOST_LOWER: i32 = 7200;
 
 // The codes in the order in which they are tried.
-const ORDER: [u32; 9] = [1, 2, 3, 4, 5, 6, 7, 8, 18];
+const ORDER: [Code; 9] = [
+    Code::EventCount,
+    Code::Period,
+    Code::ArcRows,
+    Code::Ends,
+    Code::Loop,
+    Code::Lower,
+    Code::Upper,
+    Code::Weight,
+    Code::Repeat,
+];
 
-// Is x below the least or above the greatest?
-#[tactic(auto, unfolding(crate::specs::Table::outside))]
-pub fn outside(least: usize, greatest: usize, x: usize) -> bool
-    ensures { result ≡ outside_of least greatest x }
-{
-    if x < least {
-        return true;
+impl<'a> Network<'a> {
+    // Is there no event, or are there too many?
+    #[tactic(auto, unfolding(crate::specs::Table::outside))]
+    pub fn is_miscounted(&self) -> bool
+        ensures { result ≡ outside 1 64 (events self.now) }
+    {
+        !(1..=MOST_EVENTS).contains(&self.events())
     }
-    greatest < x
-}
 
-// Do the arc rows differ in length, or are there too many arcs?
-#[tactic(auto, unfolding(crate::specs::Table::uneven))]
-pub fn uneven(
-    m: usize,
-    heads: usize,
-    lowers: usize,
-    uppers: usize,
-    weights: usize,
-    further: usize,
-) -> bool
-    ensures { result ≡ uneven_of m heads lowers uppers weights further }
-{
-    if heads != m {
-        return true;
+    // Do the arc rows differ in length, with one more of length `further`, or are there too many arcs?
+    #[tactic(auto, unfolding(crate::specs::Table::uneven))]
+    pub fn is_uneven(&self, further: usize) -> bool
+        ensures { result ≡ uneven (arcs self.now) (length self.now.heads) (length self.now.lowers) (length self.now.uppers) (length self.now.weights) further }
+    {
+        let m = self.arcs();
+        self.heads.len() != m
+            || self.lowers.len() != m
+            || self.uppers.len() != m
+            || self.weights.len() != m
+            || further != m
+            || MOST_ARCS < m
     }
-    if lowers != m {
-        return true;
-    }
-    if uppers != m {
-        return true;
-    }
-    if weights != m {
-        return true;
-    }
-    if further != m {
-        return true;
-    }
-    256 < m
-}
 
-// Is an end n or more?
-#[tactic(auto, unfolding(crate::specs::Table::strays))]
-fn strays(n: usize, from: usize, to: usize) -> bool
-    ensures { result ≡ strays_of n from to }
-{
-    if n <= from {
-        return true;
+    // Is an end of an arc no event?
+    #[tactic(auto, unfolding(crate::specs::Table::strays))]
+    fn strays(&self, arc: usize) -> bool
+        requires in_heads { arc < length self.now.heads }
+        requires in_tails { arc < arcs self.now }
+        ensures { result ≡ strays_of (events self.now) (tail self.now arc) (head self.now arc) }
+    {
+        self.events() <= self.tail(arc) || self.events() <= self.head(arc)
     }
-    n <= to
-}
 
-// How many places a code is tried at: each event, once, each arc.
-#[tactic(auto, unfolding(crate::specs::Trial::places_of))]
-fn places(code: u32, n: usize, m: usize) -> usize
-    ensures { result ≡ places_of code n m }
-{
-    if code == 2 {
-        return n;
-    }
-    if code <= 3 {
-        return 1;
-    }
-    m
-}
-
-// Does the line of `code` apply at place i? Those before it apply nowhere.
-fn applies(
-    periods: &[u32],
-    tail: &[u32],
-    head: &[u32],
-    lower: &[i32],
-    upper: &[i32],
-    weight: &[u32],
-    further: usize,
-    code: u32,
-    i: usize,
-) -> bool
-    requires { AsksAt (net_of periods tail head lower upper weight) further code i }
-    ensures { result ≡ (line (net_at periods tail head lower upper weight) further code).applies i }
-{
-    match code {
-        1 => outside(1, 64, periods.len()),
-        2 => outside(1, 3600, entry(periods, i)),
-        3 => uneven(
-            tail.len(),
-            head.len(),
-            lower.len(),
-            upper.len(),
-            weight.len(),
-            further,
-        ),
-        4 => strays(periods.len(), entry(tail, i), entry(head, i)),
-        5 => entry(tail, i) == entry(head, i),
-        6 => outside_signed(-7200, 7200, bound(lower, i)),
-        7 => bound(upper, i) < bound(lower, i),
-        8 => outside(0, 10000, entry(weight, i)),
-        _ => false,
-    }
-}
-
-// The first place where the line of `code` applies, or the count.
-fn first_place(
-    periods: &[u32],
-    tail: &[u32],
-    head: &[u32],
-    lower: &[i32],
-    upper: &[i32],
-    weight: &[u32],
-    further: usize,
-    code: u32,
-    count: usize,
-) -> usize
-    requires { AsksScan (net_of periods tail head lower upper weight) further code count }
-    ensures { Scanned (net_at periods tail head lower upper weight) further code result }
-{
-    if code == 18 {
-        return first_repeat(periods, tail, head, lower, upper, weight);
-    }
-    let mut i = 0;
-    while i < count {
-        if applies(periods, tail, head, lower, upper, weight, further, code, i) {
-            break;
+    // How many places a code is tried at: each event, once, each arc.
+    #[tactic(auto, unfolding(crate::specs::Trial::places_of))]
+    fn places(&self, code: Code) -> usize
+        ensures { result ≡ places_of (number code) (events self.now) (arcs self.now) }
+    {
+        match code {
+            Code::Period => self.events(),
+            Code::EventCount | Code::ArcRows => 1,
+            _ => self.arcs(),
         }
-        i += 1;
     }
-    i
-}
 
-// The network's first refusal, where a row of length `further` counts as an arc row. Code 0 where there is none.
-pub fn refusal(
-    periods: &[u32],
-    tail: &[u32],
-    head: &[u32],
-    lower: &[i32],
-    upper: &[i32],
-    weight: &[u32],
-    further: usize,
-) -> Answer
-    ensures { result ≡ refusal_of (net_at periods tail head lower upper weight) further }
-{
-    let order = ORDER;
-    let mut k = 0;
-    while k < order.len() {
-        let code = order[k];
-        let count = places(code, periods.len(), tail.len());
-        let place = first_place(
-            periods, tail, head, lower, upper, weight, further, code, count,
-        );
-        if place < count {
-            return crate::refused(code, place);
+    // Does the line of a code apply at place i? Those before it apply nowhere.
+    #[tactic(auto, unfolding(crate::specs::Refusals::named, crate::specs::Table::refusals_with, crate::specs::Table::outside))]
+    fn applies(&self, further: usize, code: Code, i: usize) -> bool
+        requires { AsksAt self.now further code i }
+        ensures { result ≡ (line self.now further (number code)).applies i }
+    {
+        match code {
+            Code::EventCount => self.is_miscounted(),
+            Code::Period => !(1..=3600).contains(&self.period(i)),
+            Code::ArcRows => self.is_uneven(further),
+            Code::Ends => self.strays(i),
+            Code::Loop => self.tail(i) == self.head(i),
+            Code::Lower => !(-MOST_LOWER..=MOST_LOWER).contains(&self.lower(i)),
+            Code::Upper => self.upper(i) < self.lower(i),
+            Code::Weight => 10000 < self.weight(i),
+            _ => false,
         }
-        k += 1;
     }
-    Answer {
-        code: 0,
-        place: 0,
-        cost: 0,
+
+    // The first place where the line of a code applies.
+    #[tactic(auto, using(crate::proofs::Scans::first_hit), unfolding(crate::specs::Refusals::named, crate::specs::Table::refusals_with))]
+    fn first_place(&self, further: usize, code: Code) -> Option<usize>
+        requires { Asks self.now further (number code) }
+        ensures { FirstOf (line self.now further (number code)).applies (line self.now further (number code)).places result }
+    {
+        if code == Code::Repeat {
+            return first_repeat(self);
+        }
+        for i in 0..self.places(code) {
+            if self.applies(further, code, i) {
+                return Some(i);
+            }
+        }
+        None
+    }
+
+    // The network as it is, if no line of the table applies; a row of length `further` counts as an arc row.
+    pub fn judge(&self, further: usize) -> Result<WellFormed<'a>, Refused>
+        ensures { Judged self.now further result }
+    {
+        for code in ORDER {
+            if let Some(place) = self.first_place(further, code) {
+                return Err(Refused::at(code, place));
+            }
+        }
+        Ok(WellFormed { rows: self.again() })
     }
 }

@@ -1,16 +1,13 @@
--- The quotient is the only number of periods that leaves a remainder below the period; the machine's is rounded toward zero. Assumes nothing.
-use mathlib.Core.Path.{◌≡◌, sym, ap, ◌∙◌}
-use Prim.Native.Nat.{ℕ, suc, ◌+◌, ◌*◌, ◌-◌, ◌/◌, ◌%◌, ◌≤◌, ◌<◌}
+-- The quotient is the only number of periods that leaves a remainder below the period; it is the machine's by Euclid. Assumes nothing.
+use mathlib.Core.Path.{◌≡◌, refl, sym, ap, ◌∙◌}
+use Prim.Native.Nat.{ℕ, ◌+◌, ◌-◌, ◌/◌, ◌%◌, ◌≤◌, ◌<◌}
 use native.Mathlib.Omega.{arith}
 use native.Mathlib.Nat.{mod-lt, div-add-mod', div-le_self, eq_of_mul-eq-mul_right}
-use lib.IntN.{ℤ, pos, negsuc, nat_abs, ◌+ℤ◌, ◌-ℤ◌, ◌*ℤ◌}
-use lib.Signed.{quot_z, rem_z, ◌≤ℤ◌, ◌<ℤ◌}
-use mir.Syntax.{Width}
-use mir.Val.{SFits}
-use mir.ValLaws.{sfits_le}
+use lib.IntN.{ℤ, pos, negsuc, nat_abs, ◌+ℤ◌, ◌*ℤ◌}
+use Rattle.std.specs.Int.{int_div_euclid}
 use Rattle.numbers.specs.Remainder.{remainder, IsQuotient, quotient}
-use Rattle.numbers.proofs.Integers.{up, dn, eq_ℤ, of_eq, of_sum, of_sub, up_neg, dn_neg, up_times, dn_times}
-use Rattle.numbers.proofs.Remainders.{remainder-below, remainder_only, remainder_low, remainder_high}
+use Rattle.numbers.proofs.Integers.{up, dn, eq_ℤ, of_eq, of_sum, up_times, dn_times}
+use Rattle.numbers.proofs.Remainders.{remainder-below, remainder_only}
 
 -- ---- one number, and `quotient` computes it
 
@@ -29,6 +26,10 @@ times_one {p} {q} {g} h e =
     (eq_of_mul-eq-mul_right g h (up p + dn q) (up q + dn p)
     (omega (arith, of_eq (p *ℤ pos g) (q *ℤ pos g) e, up_times p g, dn_times p g, up_times q g, dn_times q g)))
 
+pub quotient_is : {z q : ℤ} {g : ℕ} → 0 < g → q ≡ quotient z g → IsQuotient z g q
+quotient_is {z} {q} {g} h e =
+    rw e (record { left = remainder z g; below = remainder-below z g h; apart = quotient_left z g h })
+
 pub quotient_only : {z q : ℤ} {g : ℕ} → IsQuotient z g q → q ≡ quotient z g
 quotient_only {z} {q} {g} p =
     let h : 0 < g = omega (arith, p.below) in
@@ -44,67 +45,9 @@ unfolding quotient
 quotient_small (pos n) g = div-le_self n g
 quotient_small (negsuc n) g = omega (arith, div-le_self n g)
 
-pub quotient_fits : {w : Width} {z : ℤ} (g : ℕ) → SFits w z → SFits w (quotient z g)
+-- ---- the machine's quotient, by Euclid
+
+pub euclid-quotient : (z : ℤ) (g : ℕ) → int_div_euclid z (pos g) ≡ quotient z g
 unfolding quotient
-quotient_fits {z = pos n} g f = sfits_le (div-le_self n g) f
-quotient_fits {z = negsuc n} g f = sfits_le (div-le_self n g) f
-
--- ---- the machine's quotient
-
-quot_z_left : (z : ℤ) (g : ℕ) → z ≡ rem_z z (pos g) +ℤ (quot_z z (pos g) *ℤ pos g)
-quot_z_left (pos n) g = ap pos (omega (arith, div-add-mod' n g))
-quot_z_left (negsuc n) g =
-    let r : ℤ = rem_z (negsuc n) (pos g) in
-    let k : ℤ = quot_z (negsuc n) (pos g) in
-    let m : ℤ = pos (suc n % g) in
-    let q : ℤ = pos (suc n / g) in
-    eq_ℤ (negsuc n) (r +ℤ (k *ℤ pos g))
-    (omega (
-      arith,
-      div-add-mod' (suc n) g,
-      of_sum r (k *ℤ pos g),
-      up_neg m,
-      dn_neg m,
-      up_times k g,
-      dn_times k g,
-      ap (λ (n : ℕ). n * g) (up_neg q),
-      ap (λ (n : ℕ). n * g) (dn_neg q),
-    ))
-
--- where the machine's remainder is below zero, one less; from zero up, as it is
-module _ (z : ℤ) (g : ℕ) (h : 0 < g) where
-  abbrev r : ℤ
-  r = rem_z z (pos g)
-
-  abbrev k : ℤ
-  k = quot_z z (pos g)
-
-  pub quotient_low : r <ℤ pos 0 → IsQuotient z g (k -ℤ pos 1)
-  quotient_low n =
-      let s : ℤ = pos (remainder z g) in
-      let l : ℤ = k -ℤ pos 1 in
-      record {
-        left = remainder z g;
-        below = remainder-below z g h;
-        apart = eq_ℤ z (s +ℤ (l *ℤ pos g))
-            (omega (
-              arith,
-              of_eq z (r +ℤ (k *ℤ pos g)) (quot_z_left z g),
-              of_sum r (k *ℤ pos g),
-              up_times k g,
-              dn_times k g,
-              of_eq (r +ℤ pos g) s (remainder_low z g h n),
-              of_sum r (pos g),
-              of_sum s (l *ℤ pos g),
-              up_times l g,
-              dn_times l g,
-              ap (λ (n : ℕ). n * g) (of_sub k (pos 1)),
-            ));
-      }
-
-  pub quotient_high : pos 0 ≤ℤ r → IsQuotient z g k
-  quotient_high n = record {
-    left = remainder z g;
-    below = remainder-below z g h;
-    apart = quot_z_left z g ∙ ap (λ (y : ℤ). y +ℤ (k *ℤ pos g)) (remainder_high z g h n);
-  }
+euclid-quotient (pos n) g = refl
+euclid-quotient (negsuc n) g = refl

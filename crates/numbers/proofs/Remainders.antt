@@ -1,12 +1,12 @@
--- The remainder is the only number below the period that is congruent; the machine's remainder has the dividend's sign. Assumes nothing.
+-- The remainder is the only number below the period that is congruent, and the machine's by Euclid. Assumes nothing.
 use mathlib.Core.Path.{◌≡◌, refl, sym, ap, ◌∙◌}
-use Prim.Native.Nat.{ℕ, suc, ◌+◌, ◌*◌, ◌-◌, ◌/◌, ◌%◌, ◌≤◌, ◌<◌}
+use Prim.Native.Nat.{ℕ, ◌+◌, ◌*◌, ◌/◌, ◌%◌, ◌<◌}
 use native.Mathlib.Omega.{arith}
 use native.Mathlib.Nat.{mod-lt, mod-eq_of_lt, add-mul-mod_self_right, div-add-mod'}
-use lib.IntN.{ℤ, pos, negsuc, ◌+ℤ◌}
-use lib.Signed.{rem_z, ◌≤ℤ◌, ◌<ℤ◌}
+use lib.IntN.{ℤ, pos, negsuc}
+use Rattle.std.specs.Int.{int_rem_euclid}
 use Rattle.numbers.specs.Remainder.{Cong, IsRemainder, remainder}
-use Rattle.numbers.proofs.Integers.{up, dn, eq_ℤ, of_le, of_lt, of_sum, up_neg, dn_neg}
+use Rattle.numbers.proofs.Integers.{up, dn}
 use Rattle.numbers.proofs.Congruence.{cong, parts, cong_eq, cong_sym, cong_trans}
 
 -- ---- one number, and `remainder` computes it
@@ -56,36 +56,9 @@ pub mod_cong : (n g : ℕ) → 0 < g → Cong g (pos (n % g)) (pos n)
 unfolding remainder
 mod_cong n g h = cong_sym (remainder_cong (pos n) g h)
 
--- ---- the machine's remainder
+-- ---- the machine's remainder, by Euclid
 
-rem_z_cong : (z : ℤ) (g : ℕ) → 0 < g → Cong g z (rem_z z (pos g))
-rem_z_cong (pos n) g h = cong 0 (n / g) (omega (arith, div-add-mod' n g))
-rem_z_cong (negsuc n) g h =
-    cong (suc n / g) 0 (omega (arith, div-add-mod' (suc n) g, up_neg (pos (suc n % g)), dn_neg (pos (suc n % g))))
-
-rem_z_up : (z : ℤ) (g : ℕ) → 0 < g → up (rem_z z (pos g)) < g
-rem_z_up (pos n) g h = mod-lt n h
-rem_z_up (negsuc n) g h = omega (arith, up_neg (pos (suc n % g)))
-
-rem_z_dn : (z : ℤ) (g : ℕ) → 0 < g → dn (rem_z z (pos g)) < g
-rem_z_dn (pos n) g h = h
-rem_z_dn (negsuc n) g h = omega (arith, dn_neg (pos (suc n % g)), mod-lt (suc n) h)
-
--- below zero: one period more; from zero up: as it is
-pub remainder_low : (z : ℤ) (g : ℕ) → 0 < g → rem_z z (pos g) <ℤ pos 0 → rem_z z (pos g) +ℤ pos g ≡ pos (remainder z g)
-remainder_low z g h n =
-    let r : ℤ = rem_z z (pos g) in
-    let b : up r < dn r = omega (arith, of_lt r (pos 0) n) in
-    let d : dn r < g = rem_z_dn z g h in
-    let k : ℕ = (up r + g) - dn r in
-    let s : r +ℤ pos g ≡ pos k = eq_ℤ (r +ℤ pos g) (pos k) (omega (arith, of_sum r (pos g))) in
-    s ∙ ap pos (remainder_only (record { below = omega arith; cong = cong_trans (rem_z_cong z g h) (cong 1 0 (omega arith)) }))
-
-pub remainder_high : (z : ℤ) (g : ℕ) → 0 < g → pos 0 ≤ℤ rem_z z (pos g) → rem_z z (pos g) ≡ pos (remainder z g)
-remainder_high z g h n =
-    let r : ℤ = rem_z z (pos g) in
-    let b : dn r ≤ up r = omega (arith, of_le (pos 0) r n) in
-    let d : up r < g = rem_z_up z g h in
-    let k : ℕ = up r - dn r in
-    let s : r ≡ pos k = eq_ℤ r (pos k) (omega arith) in
-    s ∙ ap pos (remainder_only (record { below = omega arith; cong = cong_trans (rem_z_cong z g h) (cong_eq g s) }))
+pub euclid-remainder : (z : ℤ) (g : ℕ) → int_rem_euclid z (pos g) ≡ pos (remainder z g)
+unfolding remainder
+euclid-remainder (pos n) g = refl
+euclid-remainder (negsuc n) g = refl

@@ -5,7 +5,7 @@ ghost use Rattle.std.specs.Prelude.{◌≡◌, ◌<◌, pos, ◌-ℤ◌};
 ghost use Rattle.numbers.specs.Divisor.{IsGcd};
 ghost use Rattle.numbers.specs.Remainder.{IsRemainder, IsQuotient};
 
-// The greatest common divisor, by Euclid's rule.
+// The greatest common divisor, by Euclid's rule: how often it divides is known only at the end.
 pub fn gcd(a: u32, b: u32) -> u32
     ensures { IsGcd a b result }
 {
@@ -23,26 +23,21 @@ pub fn gcd(a: u32, b: u32) -> u32
 pub fn difference(a: u32, b: u32) -> i64
     ensures { result ≡ pos a -ℤ pos b }
 {
-    (a as i64) - (b as i64)
+    i64::from(a) - i64::from(b)
 }
 
-// The remainder from 0 to g less 1, also of a negative number: the machine's has the sign of d.
+// The remainder from 0 to g less 1, also of a negative number.
 pub fn remainder(d: i64, g: u32) -> u32
     requires { 0 < g }
     ensures { IsRemainder d g result }
 {
-    let m = g as i64;
-    let r = d % m;
-    if r < 0 { (r + m) as u32 } else { r as u32 }
+    d.rem_euclid(i64::from(g)) as u32
 }
 
-// How often g goes into d, rounded down: the machine's is rounded toward zero. Beside `remainder` of the same numbers it takes no second division.
+// How often g goes into d, rounded down.
 pub fn quotient(d: i64, g: u32) -> i64
     requires { 0 < g }
     ensures { IsQuotient d g result }
 {
-    let m = g as i64;
-    let q = d / m;
-    let left = d % m;
-    if left < 0 { q - 1 } else { q }
+    d.div_euclid(i64::from(g))
 }

@@ -1,96 +1,73 @@
 -- The laws of the marks: of one run, of a run in each lap, of an arc, of an event, of the events that are blamed, and of the walk along them. Assumes nothing.
-use mathlib.Core.Path.{◌≡◌, refl, sym, ap, ◌∙◌, subst}
+use mathlib.Core.Path.{◌≡◌, refl, sym, ap, ◌∙◌}
 use mathlib.Core.Logic.{◌⊎◌, inl, inr}
-use mathlib.Core.List.{List, ◌++◌}
-use mathlib.Core.Bool.{Bool, true, false, not, ◌||◌}
+use mathlib.Core.List.{List}
+use mathlib.Core.Bool.{Bool, true, false, ◌||◌}
 use Prim.Native.Nat.{ℕ, ◌+◌, ◌*◌, ◌-◌, ◌%◌, ◌<◌, ◌≤◌, min}
-use native.Mathlib.Nat.{eq-or-lt_of_le, mod-lt}
+use native.Mathlib.Nat.{eq-or-lt_of_le}
 use native.Mathlib.Decide.{dec_lt}
 use native.Mathlib.Omega.{arith}
-use borrow.Author.Tests.{leb-true, leb-false, not-false}
+use borrow.Author.Tests.{leb-true, leb-false}
 use lib.IntN.{pos, ◌-ℤ◌}
-use mir.Syntax.{w64}
-use mir.Val.{Fits}
-use lib.ListN.{length, set, take, drop, replicate, length-set, length-append, length-replicate, get_or-replicate}
-use lib.Seq.{get_or-set_same, get_or-set_other, get_or-take, length-take-le, take-append_seam}
+use lib.ListN.{length, set, take, replicate, length-set, length-replicate, get_or-replicate}
+use lib.Seq.{get_or-set_same, get_or-set_other, get_or-take, length-take-le}
+use borrow.Rule.Slice.PartMut.{put_mid}
+use Rattle.std.specs.Prelude.{Option, Some, None}
+use Rattle.std.specs.List.{between}
+use Rattle.std.proofs.Common.{rules}
+use Rattle.std.proofs.lemmas.List.{places}
 use Rattle.numbers.specs.Row.{at}
 use Rattle.numbers.proofs.Integers.{up, dn, of_sub}
 use Rattle.numbers.proofs.Congruence.{cong, parts}
 use Rattle.numbers.proofs.Remainders.{remainder_only, same-remainder, mod_cong}
 use Rattle.network.proofs.Scans.{true_false}
-use Rattle.search.specs.Reduced.{near_in, last_in, shift_in, run_in, gap_in, past, met_at}
-use Rattle.search.specs.Threads.{Following}
-use Rattle.search.specs.Marks.{mark, Told, RunMarked, RunTurn, RunsAsk, RunsMarked, RunsTurn, ArcAsks, ArcMarked, Grown, Cleared, Clearing}
-use Rattle.search.specs.Marks.{Joined, Joining, EventAsks, Ruled, EventMarked, EventTurn, FirstFree, SomeFree, Walk}
+use Rattle.search.specs.declared.Bar.{Bar}
+use Rattle.search.specs.Reduced.{Reduced, Sized, bar_at, arcs_in, near_in, last_in, past, met_at}
+use Rattle.search.specs.Threads.{link, Following, Threaded}
+use Rattle.search.specs.Marks.{mark, Told, RunMarked, RunTurn, RunsAsk, RunsMarked, RunsTurn, ArcAsks, ArcMarked, Grown}
+use Rattle.search.specs.Marks.{Joined, EventAsks, Ruled, passed, EventTurn, FreeAt, FirstFree, SomeFree, Walk}
 
 -- ---- whether a mark is new
-
-told_none : (row : List Bool) → Told row row false
-told_none row = record { known = λ q z. refl }
 
 told_both : {row row' row'' : List Bool} (a b : Bool) {f : Bool} → f ≡ (a || b) → Told row row' a → Told row' row'' b → Told row row'' f
 told_both true b e p q = record { known = λ n z. absurd (true_false e n) }
 told_both false b e p q = record { known = λ n z. q.known (sym e ∙ n) z ∙ p.known refl z }
 
-told_one : (row : List Bool) (z : ℕ) → z < length row → Told row (set row z true) (not (mark row z))
-told_one row z h = go (mark row z) refl
-  where
-    go : (b : Bool) → mark row z ≡ b → Told row (set row z true) (not b)
-    go false e = record { known = λ n i. absurd (true_false refl n) }
-    go true e = record { known = λ n i. pick i (dec_lt i z) (dec_lt z i) }
-      where
-        pick : (i : ℕ) → Dec (i < z) → Dec (z < i) → mark (set row z true) i ≡ mark row i
-        pick i (yes l) d = get_or-set_other row z i true false (λ q. omega arith)
-        pick i (no l) (yes d) = get_or-set_other row z i true false (λ q. omega arith)
-        pick i (no l) (no d) = let q : i ≡ z = omega (arith, l, d) in rw q (get_or-set_same row z true false h ∙ sym e)
-
 -- ---- one run
 
-pub run_first : (x y : ℕ) (row : List Bool) → RunTurn x y row row false x
-run_first x y row = record {
-  long = refl;
-  least = omega arith;
-  most = λ h. absurd (omega arith);
-  marked = record { inside = λ z h l m. absurd (omega arith); before = λ z h. refl; behind = λ z h. refl; told = told_none row };
-}
-
-module _ {x y z : ℕ} {row row' : List Bool} {fresh : Bool} (w : RunTurn x y row row' fresh z) where
-  pub run_more : {f : Bool} → z < y → y ≤ length row → f ≡ (fresh || not (mark row' z)) → RunTurn x y row (set row' z true) f (z + 1)
-  run_more h l q = record {
-    long = length-set row' z true ∙ w.long;
-    least = omega (arith, w.least);
-    most = λ _. omega arith;
-    marked = record {
-      inside = λ i a b c. pick i a b (eq-or-lt_of_le (omega arith));
-      before = λ i a. other i (λ e. omega (arith, w.least)) ∙ w.marked.before i a;
-      behind = λ i a. other i (λ e. omega arith) ∙ w.marked.behind i (omega arith);
-      told = told_both fresh (not (mark row' z)) q w.marked.told (told_one row' z (omega (arith, w.long)));
-    };
+-- the run in its row, where it ends at the lesser of `to` and the row's length
+module _ {row run' : List Bool} {x y to : ℕ} {fresh : Bool} (e : y ≡ min to (length row)) (l : x ≤ y)
+    (w : RunTurn (between x y row) run' fresh (length (between x y row))) where
+  pub run_last : RunMarked x to row (put_mid x (y - x) row run') fresh
+  run_last = record {
+    inside = λ z a b c. here z b (omega arith) ∙ w.marked (z - x) (omega (arith, long));
+    before = λ z a. search (rules, places);
+    behind = λ z a. past_it z (omega arith);
+    told = record { known = λ q z. known q z (dec_lt z x) (dec_lt z y) };
   }
     where
-      other : (i : ℕ) → (i ≡ z → ⊥) → mark (set row' z true) i ≡ mark row' i
-      other i n = get_or-set_other row' z i true false n
+      run : List Bool
+      run = between x y row
 
-      pick : (i : ℕ) → i < length row → x ≤ i → (i ≡ z) ⊎ (i < z) → mark (set row' z true) i ≡ true
-      pick i a b (inl e) = rw e (get_or-set_same row' z true false (omega (arith, w.long)))
-      pick i a b (inr c) = other i (λ e. omega arith) ∙ w.marked.inside i a b c
+      row' : List Bool
+      row' = put_mid x (y - x) row run'
 
-  -- the loop ended at the lesser of `to` and the row's length
-  pub run_last : {to : ℕ} → y ≡ min to (length row) → y ≤ z → RunMarked x to row row' fresh
-  run_last {to} e h = record {
-    inside = λ i a b c. w.marked.inside i a b (omega arith);
-    before = w.marked.before;
-    behind = λ i a. pick i a (dec_lt i x);
-    told = w.marked.told;
-  }
-    where
-      pick : (i : ℕ) → to ≤ i → Dec (i < x) → mark row' i ≡ mark row i
-      pick i a (yes b) = w.marked.before i b
-      pick i a (no b) = w.marked.behind i (reached (dec_lt x z))
-        where
-          reached : Dec (x < z) → z ≤ i
-          reached (yes c) = omega (arith, w.most c)
-          reached (no c) = omega (arith, b, c, w.least)
+      long : length run ≡ y - x
+      long = search (rules, places)
+
+      here : (z : ℕ) → x ≤ z → z < y → mark row' z ≡ mark run' (z - x)
+      here z a b = search (rules, places)
+
+      was : (z : ℕ) → x ≤ z → z < y → mark row z ≡ mark run (z - x)
+      was z a b = search (rules, places)
+
+      past_it : (z : ℕ) → y ≤ z → mark row' z ≡ mark row z
+      past_it z a = search (rules, places)
+
+      known : fresh ≡ false → (z : ℕ) → Dec (z < x) → Dec (z < y) → mark row' z ≡ mark row z
+      known q z (yes a) d = search (rules, places)
+      known q z (no a) (yes b) = here z (omega (arith, a)) b ∙ w.told.known q (z - x) ∙ sym (was z (omega (arith, a)) b)
+      known q z (no a) (no b) = past_it z (omega (arith, b))
 
 -- ---- a run in each lap: how far a place is past the beginning of its run
 
@@ -106,19 +83,12 @@ module _ {gap start : ℕ} (h : start < gap) where
   past_lap : (laps z d : ℕ) → d < gap → z ≡ (start + laps * gap) + d → past gap start 0 z ≡ d
   past_lap laps z d l e = past_is 0 laps z d l (omega arith)
 
-module _ {gap start run : ℕ} {row : List Bool} (c : RunsAsk gap start run row) where
-  pub runs_first : RunsTurn gap start run row row false start
-  runs_first = record {
-    long = refl;
-    laps = 0;
-    begins = omega arith;
-    marked = λ z a b d. absurd (omega arith);
-    clear = λ z a p. refl;
-    before = λ z a. refl;
-    behind = λ z a. refl;
-    told = told_none row;
-  }
+-- the row and the answer as the loop leaves them
+pub runs_left : {gap start run : ℕ} {row row' row'' : List Bool} {f f' : Bool} {x : ℕ} → RunsTurn gap start run row row' f x → row'' ≡ row' → f' ≡ f
+    → RunsTurn gap start run row row'' f' x
+runs_left w p q = rw (p, q) w
 
+module _ {gap start run : ℕ} {row : List Bool} (c : RunsAsk gap start run row) where
   module _ {row' : List Bool} {fresh : Bool} {x : ℕ} (w : RunsTurn gap start run row row' fresh x) where
     pub runs_more : {row'' : List Bool} {b f : Bool} → length row'' ≡ length row' → RunMarked x (x + run) row' row'' b → f ≡ (fresh || b)
         → RunsTurn gap start run row row'' f (x + gap)
@@ -167,19 +137,6 @@ module _ {gap start run : ℕ} {row : List Bool} (c : RunsAsk gap start run row)
 
 -- ---- an arc
 
--- what is asked of its numbers
-pub rest_fits : (x : ℕ) {g : ℕ} → 0 < g → g ≤ 3600 → Fits w64 (x % g)
-rest_fits x h m = omega (arith, mod-lt x h)
-
-pub runs_asks : {bars t : List ℕ} {a run : ℕ} {row : List Bool} → ArcAsks bars t a row → run ≡ run_in bars a → (x : ℕ)
-    → RunsAsk (gap_in bars a) (x % gap_in bars a) run row
-runs_asks c r x = record {
-  start_most = mod-lt x (omega (arith, c.shift_most));
-  run_most = omega (arith, r, c.run_most);
-  gap_most = c.gap_most;
-  few = c.few;
-}
-
 -- the run that begins where the time at the earlier end and the shift say is the one that begins a shift after that time
 past_same : (g near shift x : ℕ) → 0 < g → past g ((near + shift) % g) 0 x ≡ past g shift near x
 past_same g near shift x h =
@@ -189,23 +146,20 @@ past_same g near shift x h =
     (cong (up m.times) (dn m.times)
     (omega (arith, parts m, of_sub (pos x) (pos 0), of_sub (pos x -ℤ pos 0) (pos s), of_sub (pos x) (pos near), of_sub (pos x -ℤ pos near) (pos shift))))
 
-module _ {bars t : List ℕ} {a near run : ℕ} {row row' : List Bool} {fresh : Bool} (c : ArcAsks bars t a row) (n : near ≡ at t (near_in bars a))
-    (r : run ≡ run_in bars a) (w : RunsMarked (gap_in bars a) ((near + shift_in bars a) % gap_in bars a) run row row' fresh) where
-  abbrev far : ℕ → ℕ
-  far x = past (gap_in bars a) (shift_in bars a) (at t (near_in bars a)) x
+pub arc_marked : {b : Bar} {t : List ℕ} {row row' : List Bool} {fresh : Bool} → ArcAsks b t row
+    → RunsMarked b.gap ((at t b.near + b.shift) % b.gap) b.run row row' fresh
+    → ArcMarked b t row row' fresh
+arc_marked {b} {t} c w = record {
+  marked = λ x h e. w.marked x h (omega (arith, same x, leb-false b.run (far x) e));
+  clear = λ x h e. w.clear x h (omega (arith, same x, leb-true b.run (far x) e));
+  told = w.told;
+}
+  where
+    far : ℕ → ℕ
+    far x = past b.gap b.shift (at t b.near) x
 
-  same : (x : ℕ) → past (gap_in bars a) ((near + shift_in bars a) % gap_in bars a) 0 x ≡ far x
-  same x =
-      past_same (gap_in bars a) near (shift_in bars a) x (omega (arith, c.shift_most))
-      ∙ ap (λ (z : ℕ). past (gap_in bars a) (shift_in bars a) z x) n
-
-  pub arc_marked : ArcMarked bars t a row row' fresh
-  unfolding met_at
-  arc_marked = record {
-    marked = λ x h e. w.marked x h (omega (arith, r, same x, leb-false (run_in bars a) (far x) e));
-    clear = λ x h e. w.clear x h (omega (arith, r, same x, leb-true (run_in bars a) (far x) e));
-    told = w.told;
-  }
+    same : (x : ℕ) → past b.gap ((at t b.near + b.shift) % b.gap) 0 x ≡ far x
+    same x = past_same b.gap (at t b.near) b.shift x (omega (arith, c.shift_most))
 
 -- ---- an event
 
@@ -215,7 +169,7 @@ or_true false = refl
 
 -- the earlier end of an arc with a new mark is blamed, and no other blame is lost
 module _ (B : List Bool) (i : ℕ) (h : i < length B) (fresh : Bool) {b : Bool} (q : b ≡ (mark B i || fresh)) where
-  pub blame_grown : Grown B (set B i b)
+  blame_grown : Grown B (set B i b)
   blame_grown = record { each = λ j l e. pick j e (dec_lt j i) (dec_lt i j) }
     where
       pick : (j : ℕ) → mark B j ≡ true → Dec (j < i) → Dec (i < j) → mark (set B i b) j ≡ true
@@ -228,91 +182,111 @@ module _ (B : List Bool) (i : ℕ) (h : i < length B) (fresh : Bool) {b : Bool} 
   blame_here : fresh ≡ true → mark (set B i b) i ≡ true
   blame_here e = get_or-set_same B i b false h ∙ q ∙ ap (λ (z : Bool). mark B i || z) e ∙ or_true (mark B i)
 
-ruled_grown : {bars t : List ℕ} {m k x : ℕ} {B B' : List Bool} → Grown B B' → (r : Ruled bars m t k B x) → near_in bars r.arc < 64 → Ruled bars m t k B' x
-ruled_grown {bars} g r l =
-    record { arc = r.arc; below = r.below; ends = r.ends; unmet = r.unmet; blamed = g.each (near_in bars r.arc) l r.blamed }
+ruled_grown : {R : Reduced} {t : List ℕ} {k x : ℕ} {B B' : List Bool} → Grown B B' → (r : Ruled R t k B x) → near_in R.bars r.arc < 64 → Ruled R t k B' x
+ruled_grown {R} g r l =
+    record { arc = r.arc; below = r.below; ends = r.ends; unmet = r.unmet; blamed = g.each (near_in R.bars r.arc) l r.blamed }
 
-module _ {bars firsts nexts t : List ℕ} {k : ℕ} {row B₀ : List Bool} (c : EventAsks bars firsts nexts t k row B₀) where
-  pub event_first : {r : ℕ} {B : List Bool} → length B ≡ 64 → r ≡ at firsts k → EventTurn bars (length nexts) t k row row B r
-  event_first {r} l e =
-      let f : Following bars (length nexts) k 0 r = rw e (c.threaded.first_is k c.event) in
+module _ {R : Reduced} {firsts nexts : List (Option ℕ)} {t : List ℕ} {k : ℕ} {row : List Bool} (s : Sized R) (threads : Threaded R firsts nexts)
+    (c : EventAsks R t k row) where
+  -- none is passed before the first, and all where there is none
+  first_passed : (o : Option ℕ) → Following R.bars k 0 o → (a : ℕ) → a < passed R o → a < arcs_in R → last_in R.bars a ≡ k → ⊥
+  first_passed (Some r) f a l m z = (f.some r refl).none a (omega arith) l z
+  first_passed None f a l m z = f.none refl a (omega arith) m z
+
+  most_passed : {c : ℕ} (o : Option ℕ) → Following R.bars k c o → passed R o ≤ arcs_in R
+  most_passed (Some r) f = omega (arith, (f.some r refl).below)
+  most_passed None f = omega arith
+
+  pub event_first : {B : List Bool} → length B ≡ 64 → EventTurn R t k row row B (link firsts k)
+  event_first {B} l =
+      let f : Following R.bars k 0 (link firsts k) = threads.first_is k c.event in
       record {
         long = refl;
         room = l;
-        here = f.here;
+        here = λ a e. ((f.some a e).below, (f.some a e).here);
         marks = record {
           marked = λ x h q. absurd (true_false q (c.empty x h));
-          clear = λ x h q a l m z. absurd (f.none a (omega arith) l m z);
+          clear = λ x h q a m z. absurd (first_passed (link firsts k) f a m (omega (arith, most_passed (link firsts k) f)) z);
         };
       }
 
-  module _ {row' B : List Bool} {a : ℕ} (w : EventTurn bars (length nexts) t k row row' B a) (l : a < length nexts) where
-    pub event_arc : ArcAsks bars t a row'
-    event_arc =
-        let b = c.barred in
-        let n = b.near_is a l in
-        record {
-          few_arcs = omega (arith, b.few_arcs);
-          arc = omega (arith, b.long);
-          near_is = omega (arith, n, b.last_is a l);
-          time = c.times (near_in bars a) (omega (arith, n, w.here l));
-          shift_most = b.shift_most a l;
-          run_most = b.run_most a l;
-          gap_most = b.gap_most a l;
-          few = omega (arith, w.long, c.few);
-        }
+  module _ {row' B : List Bool} {next : Option ℕ} {a l : ℕ} (w : EventTurn R t k row row' B next) (q : next ≡ Some l) (o : a ≡ l) where
+    next_is : next ≡ Some a
+    next_is = q ∙ ap Some (sym o)
+
+    pub event_in : a < arcs_in R
+    event_in = (w.here a next_is).0
+
+    event_end : last_in R.bars a ≡ k
+    event_end = (w.here a next_is).1
+
+    following : Following R.bars k (a + 1) (link nexts a)
+    following = rw (← event_end) (threads.next_is a (omega arith) event_in)
+
+    -- fewer arcs are left
+    pub event_smaller : arcs_in R - passed R (link nexts a) < arcs_in R - passed R next
+    event_smaller = omega (arith, event_in, ap (passed R) next_is, later (link nexts a) following)
+      where
+        later : (o : Option ℕ) → Following R.bars k (a + 1) o → a < passed R o
+        later (Some r) f = omega (arith, (f.some r refl).least)
+        later None f = event_in
 
     -- the earlier end of the arc has its place in the row of blame
-    pub near_few : near_in bars a < 64
-    near_few = omega (arith, c.barred.near_is a l, w.here l, c.few_events)
+    near_few : near_in R.bars a < 64
+    near_few = omega (arith, s.barred.near_is a event_in, event_end, c.event, s.few)
 
-    pub event_more : {row'' : List Bool} {fresh b : Bool} {near r : ℕ} → ArcMarked bars t a row' row'' fresh → length row'' ≡ length row' → near ≡ near_in bars a
-        → b ≡ (mark B near || fresh) → r ≡ at nexts a
-        → EventTurn bars (length nexts) t k row row'' (set B near b) r
-    event_more {row''} {fresh} {b} {near} {r} m e n o q = record {
+    -- the arcs of event k that are passed with this one are those passed before it, and it
+    more_passed : (o : Option ℕ) → Following R.bars k (a + 1) o → (b : ℕ) → b < passed R o → last_in R.bars b ≡ k → (b ≡ a) ⊎ (b < a)
+    more_passed o f b i z = pick (dec_lt a b)
+      where
+        none : (o : Option ℕ) → Following R.bars k (a + 1) o → b < passed R o → a < b → ⊥
+        none (Some r) f i l = (f.some r refl).none b (omega arith) i z
+        none None f i l = f.none refl b (omega arith) i z
+
+        pick : Dec (a < b) → (b ≡ a) ⊎ (b < a)
+        pick (yes l) = absurd (none o f i l)
+        pick (no l) = eq-or-lt_of_le (omega (arith, l))
+
+    pub event_more : {row'' : List Bool} {fresh b : Bool} → ArcMarked (bar_at R.bars a) t row' row'' fresh → length row'' ≡ length row'
+        → b ≡ (mark B (near_in R.bars a) || fresh)
+        → EventTurn R t k row row'' (set B (near_in R.bars a) b) (link nexts a)
+    unfolding met_at
+    event_more {row''} {fresh} {b} m e j = record {
       long = e ∙ w.long;
       room = length-set B near b ∙ w.room;
-      here = f.here;
+      here = λ i p. ((following.some i p).below, (following.some i p).here);
       marks = record {
         marked = λ x h y. marked x h y (mark row' x) refl;
-        clear = λ x h y b i j z. clear x h y b i j z (met_at bars t a x) refl;
+        clear = λ x h y i l z. clear x h y (more_passed (link nexts a) following i l z) z (met_at R.bars t a x) refl;
       };
     }
       where
-        f : Following bars (length nexts) k (a + 1) r
-        f = rw (q, ← w.here l) (c.threaded.next_is a (omega arith) l)
+        near : ℕ
+        near = near_in R.bars a
 
         here : near < length B
-        here = omega (arith, n, near_few, w.room)
+        here = omega (arith, near_few, w.room)
 
-        near_all : {B : List Bool} {x : ℕ} (r : Ruled bars (length nexts) t k B x) → near_in bars r.arc < 64
-        near_all r = omega (arith, c.barred.near_is r.arc r.below, r.ends, c.few_events)
+        near_all : {B : List Bool} {x : ℕ} (r : Ruled R t k B x) → near_in R.bars r.arc < 64
+        near_all r = omega (arith, s.barred.near_is r.arc r.below, r.ends, c.event, s.few)
 
         -- a new mark: the arc isn't met there, and said so
-        new : (x : ℕ) → x < length row'' → mark row'' x ≡ true → mark row' x ≡ false → (z v : Bool) → met_at bars t a x ≡ z → fresh ≡ v
-            → Ruled bars (length nexts) t k (set B near b) x
+        new : (x : ℕ) → x < length row'' → mark row'' x ≡ true → mark row' x ≡ false → (z v : Bool) → met_at R.bars t a x ≡ z → fresh ≡ v
+            → Ruled R t k (set B near b) x
         new x h y p true v i u = absurd (true_false y (m.clear x (omega arith) i ∙ p))
         new x h y p false false i u = absurd (true_false y (m.told.known u x ∙ p))
         new x h y p false true i u =
-            record { arc = a; below = l; ends = w.here l; unmet = i; blamed = ap (mark (set B near b)) (sym n) ∙ blame_here B near here fresh o u }
+            record { arc = a; below = event_in; ends = event_end; unmet = i; blamed = blame_here B near here fresh j u }
 
-        marked : (x : ℕ) → x < length row'' → mark row'' x ≡ true → (d : Bool) → mark row' x ≡ d → Ruled bars (length nexts) t k (set B near b) x
-        marked x h y true p = let r = w.marks.marked x (omega arith) p in ruled_grown (blame_grown B near here fresh o) r (near_all r)
-        marked x h y false p = new x h y p (met_at bars t a x) fresh refl refl
+        marked : (x : ℕ) → x < length row'' → mark row'' x ≡ true → (d : Bool) → mark row' x ≡ d → Ruled R t k (set B near b) x
+        marked x h y true p = let r = w.marks.marked x (omega arith) p in ruled_grown (blame_grown B near here fresh j) r (near_all r)
+        marked x h y false p = new x h y p (met_at R.bars t a x) fresh refl refl
 
-        clear : (x : ℕ) → x < length row'' → mark row'' x ≡ false → (b : ℕ) → b < r → b < length nexts → last_in bars b ≡ k → (d : Bool) → met_at bars t a x ≡ d
-            → met_at bars t b x ≡ true
-        clear x h y b i j z false d = absurd (true_false (m.marked x (omega arith) d) y)
-        clear x h y b i j z true d = pick (dec_lt b a) (dec_lt a b)
-          where
-            pick : Dec (b < a) → Dec (a < b) → met_at bars t b x ≡ true
-            pick (yes p) u = w.marks.clear x (omega arith) (sym (m.clear x (omega arith) d) ∙ y) b p j z
-            pick (no p) (yes u) = absurd (f.none b (omega arith) i j z)
-            pick (no p) (no u) = let s : b ≡ a = omega (arith, p, u) in rw s d
-
-  pub event_last : {row' B : List Bool} {r : ℕ} → EventTurn bars (length nexts) t k row row' B r → length nexts ≤ r
-      → EventMarked bars (length nexts) (length nexts) t k row' B
-  event_last w h = record { marked = w.marks.marked; clear = λ x l y a b d z. w.marks.clear x l y a (omega arith) d z }
+        clear : (x : ℕ) → x < length row'' → mark row'' x ≡ false → {i : ℕ} → (i ≡ a) ⊎ (i < a) → last_in R.bars i ≡ k → (d : Bool) → met_at R.bars t a x ≡ d
+            → met_at R.bars t i x ≡ true
+        clear x h y p z false d = absurd (true_false (m.marked x (omega arith) d) y)
+        clear x h y (inl q) z true d = rw q d
+        clear x h y (inr q) z true d = w.marks.clear x (omega arith) (sym (m.clear x (omega arith) d) ∙ y) _ (omega (arith, ap (passed R) next_is)) z
 
 -- ---- the events that are blamed
 
@@ -321,39 +295,6 @@ grown_refl B = record { each = λ i h e. e }
 
 pub grown_trans : {B B' B'' : List Bool} → Grown B B' → Grown B' B'' → Grown B B''
 grown_trans p q = record { each = λ i h e. q.each i h (p.each i h e) }
-
-pub clear_first : (B : List Bool) → Clearing B B 0
-clear_first B = record { long = refl; cleared = λ j h. absurd (omega arith) }
-
-module _ {B B' : List Bool} {i : ℕ} (w : Clearing B B' i) where
-  pub clear_more : i < length B → Clearing B (set B' i false) (i + 1)
-  clear_more h = record { long = length-set B' i false ∙ w.long; cleared = λ j l. pick j (eq-or-lt_of_le (omega arith)) }
-    where
-      pick : (j : ℕ) → (j ≡ i) ⊎ (j < i) → mark (set B' i false) j ≡ false
-      pick j (inl e) = rw e (get_or-set_same B' i false false (omega (arith, w.long)))
-      pick j (inr l) = get_or-set_other B' i j false false (λ e. omega arith) ∙ w.cleared j l
-
-  pub clear_last : 64 ≤ i → Cleared B'
-  clear_last h = record { each = λ j l. w.cleared j (omega arith) }
-
-pub join_first : (B D : List Bool) → Joining B D B 0
-join_first B D = record { long = refl; joined = λ j h. absurd (omega arith); ahead = λ j h. refl }
-
-module _ {B D B' : List Bool} {i : ℕ} (w : Joining B D B' i) where
-  pub join_more : {b : Bool} → i < length B → b ≡ (mark B' i || mark D i) → Joining B D (set B' i b) (i + 1)
-  join_more {b} h q = record {
-    long = length-set B' i b ∙ w.long;
-    joined = λ j l. pick j (eq-or-lt_of_le (omega arith));
-    ahead = λ j l. get_or-set_other B' i j b false (λ e. omega arith) ∙ w.ahead j (omega arith);
-  }
-    where
-      pick : (j : ℕ) → (j ≡ i) ⊎ (j < i) → mark (set B' i b) j ≡ (mark B j || mark D j)
-      pick j (inl e) =
-          rw e (get_or-set_same B' i b false (omega (arith, w.long)) ∙ q ∙ ap (λ (z : Bool). z || mark D i) (w.ahead i (omega arith)))
-      pick j (inr l) = get_or-set_other B' i j b false (λ e. omega arith) ∙ w.joined j l
-
-  pub join_last : 64 ≤ i → Joined B D B'
-  join_last h = record { each = λ j l. w.joined j (omega arith) }
 
 -- the joined row has the blame of both
 module _ {B D B' : List Bool} (w : Joined B D B') where
@@ -371,57 +312,48 @@ fresh p h = length-take-le p (replicate 3600 false) (omega (arith, length-replic
 pub fresh_empty : (p x : ℕ) → p ≤ 3600 → x < p → mark (take p (replicate 3600 false)) x ≡ false
 fresh_empty p x h l = get_or-take p (replicate 3600 false) x false l ∙ get_or-replicate 3600 x false false (omega arith)
 
--- with these written
-abbrev pub whole : ℕ → List Bool → List Bool
-whole p row = row ++ drop p (replicate 3600 false)
-
-module _ (p : ℕ) (row : List Bool) (e : length row ≡ p) where
-  first_places : take p (whole p row) ≡ row
-  first_places = ap (λ (n : ℕ). take n (whole p row)) (sym e) ∙ take-append_seam row (drop p (replicate 3600 false))
-
-  pub has_places : p ≤ length (whole p row)
-  has_places = omega (arith, length-append row (drop p (replicate 3600 false)))
-
-  pub places_long : length (take p (whole p row)) ≡ p
-  places_long = ap length first_places ∙ e
-
-  pub walked : {x r : ℕ} → FirstFree (take p (whole p row)) x r → FirstFree row x r
-  walked {x} {r} f = subst (λ (s : List Bool). FirstFree s x r) first_places f
-
 -- ---- the walk
 
-pub free_first : (row : List Bool) (x : ℕ) (r : Bool) → SomeFree row x 0 r
-free_first row x r = record { none = λ e y a b. absurd (omega arith) }
-
-pub free_more : {row : List Bool} {x k : ℕ} (f : Bool) {g : Bool} → SomeFree row x k f → g ≡ (f || not (mark row (x + k))) → SomeFree row x (k + 1) g
-free_more true s e = record { none = λ z. absurd (true_false e z) }
-free_more {row} {x} {k} false {g} s e = record { none = λ z y a b. pick z y a (eq-or-lt_of_le (omega arith)) }
-  where
-    pick : g ≡ false → (y : ℕ) → x ≤ y → (y ≡ x + k) ⊎ (y < x + k) → mark row y ≡ true
-    pick z y a (inl q) = rw q (not-false _ (sym e ∙ z))
-    pick z y a (inr l) = s.none refl y a l
-
-pub walk_first : {row : List Bool} {x : ℕ} → x ≤ length row → Walk row x x
-walk_first h = record { least = omega arith; most = h; passed = λ z a b. absurd (omega arith) }
-
 module _ {row : List Bool} {x y : ℕ} (w : Walk row x y) where
-  pub walk_found : mark row y ≡ false → FirstFree row x y
-  walk_found e = record { least = w.least; most = w.most; passed = w.passed; free = λ h. e }
-
-  pub walk_more : y < length row → mark row y ≡ true → Walk row x (y + 1)
-  walk_more h e = record { least = omega (arith, w.least); most = omega arith; passed = λ z a b. pick z a (eq-or-lt_of_le (omega arith)) }
-    where
-      pick : (z : ℕ) → x ≤ z → (z ≡ y) ⊎ (z < y) → mark row z ≡ true
-      pick z a (inl q) = rw q e
-      pick z a (inr l) = w.passed z a l
-
-  -- 64 places passed at once
-  pub walk_block : {r : Bool} → y + 64 ≤ length row → SomeFree row y 64 r → r ≡ false → Walk row x (y + 64)
+  -- a block passed at once
+  pub walk_block : {r : Bool} → y + 64 ≤ length row → SomeFree (between y (y + 64) row) r → r ≡ false → Walk row x (y + 64)
   walk_block h f e = record { least = omega (arith, w.least); most = h; passed = λ z a b. pick z a b (dec_lt z y) }
     where
+      here : (z : ℕ) → y ≤ z → z < y + 64 → mark row z ≡ mark (between y (y + 64) row) (z - y)
+      here z a b = search (rules, places)
+
+      long : length (between y (y + 64) row) ≡ 64
+      long = search (rules, places)
+
       pick : (z : ℕ) → x ≤ z → z < y + 64 → Dec (z < y) → mark row z ≡ true
       pick z a b (yes l) = w.passed z a l
-      pick z a b (no n) = f.none e z (omega (arith, n)) b
+      pick z a b (no n) = here z (omega (arith, n)) b ∙ f.none e (z - y) (omega (arith, n, long))
 
-  pub walk_last : length row ≤ y → FirstFree row x y
-  walk_last h = record { least = w.least; most = w.most; passed = w.passed; free = λ l. absurd (omega arith) }
+  pub walk_end : length row ≤ y → Walk row x (length row)
+  walk_end h = record { least = omega (arith, w.least, w.most); most = omega arith; passed = λ z a b. w.passed z a (omega arith) }
+
+  -- the rest of the row behind it
+  mark_rest : (i : ℕ) → mark row (y + i) ≡ mark (between y (length row) row) i
+  mark_rest i = search (rules, places)
+
+  rest_length : length (between y (length row) row) ≡ length row - y
+  rest_length = search (rules, places)
+
+  -- its first i places are marked
+  walked : {i : ℕ} → ((j : ℕ) → j < i → mark (between y (length row) row) j ≡ true) → (z : ℕ) → x ≤ z → z < y + i → mark row z ≡ true
+  walked {i} m z a b = pick (dec_lt z y)
+    where
+      pick : Dec (z < y) → mark row z ≡ true
+      pick (yes l) = w.passed z a l
+      pick (no n) =
+          let e : z ≡ y + (z - y) = omega (arith, n) in
+          ap (mark row) e ∙ mark_rest (z - y) ∙ m (z - y) (omega (arith, n))
+
+  -- and the next one is free
+  pub walk_found : {i : ℕ} → i < length (between y (length row) row) → ((j : ℕ) → j < i → mark (between y (length row) row) j ≡ true)
+      → mark (between y (length row) row) i ≡ false
+      → FreeAt row x (y + i)
+  walk_found {i} h m f = record { least = omega (arith, w.least); below = omega (arith, rest_length); passed = walked m; free = mark_rest i ∙ f }
+
+  pub walk_none : ((j : ℕ) → j < length (between y (length row) row) → mark (between y (length row) row) j ≡ true) → FirstFree row x None
+  walk_none m z a b = walked m z a (omega (arith, rest_length, w.most))

@@ -2,12 +2,13 @@
 use mathlib.Core.List.{List}
 use mathlib.Core.Option.{Option, some, none}
 use mathlib.Core.Bool.{Bool, true, false, not, ◌&&◌}
-use Prim.Native.Nat.{ℕ, zero, suc, ◌+◌, ◌*◌}
+use Prim.Native.Nat.{ℕ, zero, suc, ◌+◌}
 use lib.Dec.{eqb}
 use lib.ListN.{set, replicate}
 use Rattle.network.specs.Network.{Network, events, arcs}
 use Rattle.network.specs.First.{first}
-use Rattle.search.specs.Reduced.{Reduced, reduced, period_in, last_in, met_in, put_arcs}
+use Rattle.network.specs.Rows.{written}
+use Rattle.search.specs.Reduced.{bar, Reduced, reduced, arcs_in, period_in, last_in, met_in, bar_of}
 
 -- a row of n zeros
 abbrev pub zeros : ℕ → List ℕ
@@ -15,9 +16,7 @@ zeros n = replicate n 0
 
 -- the network in unsigned numbers, its arcs written over zeros
 unfoldable pub reduced_for : Network → Reduced
-reduced_for N =
-    let m = arcs N in
-    reduced N.periods (put_arcs N (zeros (5 * m)) m) m
+reduced_for N = reduced N.periods (written (bar_of N) (arcs N) (replicate (arcs N) (bar 0 0 0 0 0)))
 
 -- arc a stands in the way of the time at event k: k is its later end, and it is not met
 unfoldable pub hinders : Reduced → List ℕ → ℕ → ℕ → Bool
@@ -25,7 +24,7 @@ hinders R t k a = eqb (last_in R.bars a) k && not (met_in R.bars t a)
 
 -- the time at event k fits those before it: no arc stands in its way
 unfoldable pub fits : Reduced → List ℕ → ℕ → Bool
-fits R t k = eqb (first (hinders R t k) R.arcs) R.arcs
+fits R t k = eqb (first (hinders R t k) (arcs_in R)) (arcs_in R)
 
 -- c attempts, at the times from x on: the first row that one of them gives
 unfoldable pub tries : (ℕ → Option (List ℕ)) → ℕ → ℕ → Option (List ℕ)

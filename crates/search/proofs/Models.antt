@@ -3,7 +3,7 @@ use mathlib.Core.Path.{◌≡◌, refl, sym, ap, ◌∙◌}
 use mathlib.Core.List.{List}
 use mathlib.Core.Option.{Option, some, none}
 use mathlib.Core.Bool.{Bool, true, false, not, ◌||◌, ◌&&◌}
-use Prim.Native.Nat.{ℕ, zero, suc, ◌+◌, ◌*◌, ◌<◌, ◌≤◌}
+use Prim.Native.Nat.{ℕ, zero, suc, ◌+◌, ◌<◌, ◌≤◌}
 use native.Mathlib.Omega.{arith}
 use borrow.Author.Tests.{eqb-true, eqb-false, eq-eqb, not-true, not-false}
 use lib.Dec.{eqb}
@@ -13,15 +13,15 @@ use Rattle.network.specs.PublicRule.{Feasible, Smallest}
 use Rattle.network.specs.Table.{WellFormed}
 use Rattle.network.specs.First.{first}
 use Rattle.network.proofs.Scans.{true_false, first_is}
-use Rattle.search.specs.Looked.{Looked}
+use Rattle.search.specs.Looked.{Looked, Serves}
 use Rattle.search.specs.Looked.Looked.{found, nothing}
-use Rattle.search.specs.Reduced.{Reduced, events_in, period_in, last_in, met_in, BarsLent}
+use Rattle.search.specs.Reduced.{Reduced, Sized, arcs_in, events_in, period_in, last_in, met_in, bar}
 use Rattle.search.specs.Marks.{mark, Joined}
 use Rattle.search.specs.Steps.{Agree, AgreeOn, Partial, BlockedOn, Ready, Placed, NoneIn, Turn}
 use Rattle.search.proofs.Model.{zeros, reduced_for, hinders, fits, tries, find, smallest_of}
 use Rattle.search.proofs.Agreeing.{agree_refl, agree_set}
 use Rattle.search.proofs.Steps.{met_local, put_here, fit_all, placed_all, turn_first, turn_last, step_hit, step_missed, start, sought}
-use Rattle.search.proofs.Reducing.{sized, serves, looked}
+use Rattle.search.proofs.Reducing.{serves, looked}
 
 -- ---- it blames every event, so that none is passed over
 
@@ -44,7 +44,7 @@ record Fit (R : Reduced) (t : List ℕ) (k x : ℕ) (r : Bool) : Type 0 where
   yes_fit : r ≡ true → Partial R (set t k x) (k + 1)
   no_fit : r ≡ false → BlockedOn R (set t k x) everyone (k + 1)
 
-module _ {R : Reduced} {t : List ℕ} {k : ℕ} (c : Ready R t k) (e : k < events_in R) (x : ℕ) (a : ℕ) (m : a < R.arcs) where
+module _ {R : Reduced} {t : List ℕ} {k : ℕ} (s : Sized R) (c : Ready R t k) (e : k < events_in R) (x : ℕ) (a : ℕ) (m : a < arcs_in R) where
   passes : hinders R (set t k x) k a ≡ false → last_in R.bars a ≡ k → met_in R.bars (set t k x) a ≡ true
   unfolding hinders
   passes f q = not-false _ (rw (eq-eqb _ _ q) at f)
@@ -52,7 +52,7 @@ module _ {R : Reduced} {t : List ℕ} {k : ℕ} (c : Ready R t k) (e : k < event
   unmet_stops : last_in R.bars a ≡ k → met_in R.bars (set t k x) a ≡ false → BlockedOn R (set t k x) everyone (k + 1)
   unmet_stops q n = record {
     never = λ u f g.
-        true_false (met_local c.sized a m (omega (arith, q)) (agree_all (omega (arith, c.sized.few)) g) ∙ f.met a m) n;
+        true_false (met_local s a m (omega (arith, q)) (agree_all (omega (arith, s.few)) g) ∙ f.met a m) n;
   }
 
   stops : hinders R (set t k x) k a ≡ true → BlockedOn R (set t k x) everyone (k + 1)
@@ -63,14 +63,14 @@ module _ {R : Reduced} {t : List ℕ} {k : ℕ} (c : Ready R t k) (e : k < event
       go true q g = unmet_stops (eqb-true _ k q) (not-true _ g)
       go false q g = absurd (true_false g refl)
 
-fits_right : {R : Reduced} {t : List ℕ} {k : ℕ} → Ready R t k → k < events_in R → (x : ℕ) → x < period_in R k → Fit R t k x (fits R (set t k x) k)
+fits_right : {R : Reduced} {t : List ℕ} {k : ℕ} → Sized R → Ready R t k → k < events_in R → (x : ℕ) → x < period_in R k → Fit R t k x (fits R (set t k x) k)
 unfolding fits
-fits_right {R} {t} {k} c e x l =
-    let p = first (hinders R (set t k x) k) R.arcs in
-    let f = first_is (hinders R (set t k x) k) R.arcs in
+fits_right {R} {t} {k} s c e x l =
+    let p = first (hinders R (set t k x) k) (arcs_in R) in
+    let f = first_is (hinders R (set t k x) k) (arcs_in R) in
     record {
-      yes_fit = λ q. fit_all c e x l (λ a m. passes c e x a m (f.before a (omega (arith, eqb-true p R.arcs q))));
-      no_fit = λ q. let h : p < R.arcs = omega (arith, f.within, eqb-false p R.arcs q) in stops c e x p h (f.found h);
+      yes_fit = λ q. fit_all s c e x l (λ a m. passes s c e x a m (f.before a (omega (arith, eqb-true p (arcs_in R) q))));
+      no_fit = λ q. let h : p < arcs_in R = omega (arith, f.within, eqb-false p (arcs_in R) q) in stops s c e x p h (f.found h);
     }
 
 -- ---- the search at event k
@@ -80,13 +80,13 @@ abbrev Says : Reduced → List ℕ → ℕ → Option (List ℕ) → Type 0
 Says R t k (some u) = Placed R t k u everyone true
 Says R t k none = Placed R t k t everyone false
 
-module _ {R : Reduced} {t : List ℕ} {k : ℕ} (c : Ready R t k) (m : k < events_in R) where
-  attempt_right : (later : List ℕ → Option (List ℕ)) → ((s : List ℕ) → Ready R s (k + 1) → Says R s (k + 1) (later s)) → (x : ℕ) → x < period_in R k
+module _ {R : Reduced} {t : List ℕ} {k : ℕ} (s : Sized R) (c : Ready R t k) (m : k < events_in R) where
+  attempt_right : (later : List ℕ → Option (List ℕ)) → ((u : List ℕ) → Ready R u (k + 1) → Says R u (k + 1) (later u)) → (x : ℕ) → x < period_in R k
       → Says R (set t k x) (k + 1) (elim (fits R (set t k x) k) [ true ↦ later (set t k x) | false ↦ none ])
-  attempt_right later good x h = go (fits R (set t k x) k) (fits_right c m x h)
+  attempt_right later good x h = go (fits R (set t k x) k) (fits_right s c m x h)
     where
       go : (b : Bool) → Fit R t k x b → Says R (set t k x) (k + 1) (elim b [ true ↦ later (set t k x) | false ↦ none ])
-      go true f = good (set t k x) (record { sized = c.sized; long = length-set t k x ∙ c.long; most = omega (arith, m); before = f.yes_fit refl })
+      go true f = good (set t k x) (record { long = length-set t k x ∙ c.long; most = omega (arith, m); before = f.yes_fit refl })
       go false f = record { kept = agree_refl (k + 1) (set t k x); found = λ e. absurd (true_false e refl); none_left = f.no_fit }
 
   tries_right : (attempt : ℕ → Option (List ℕ)) → ((x : ℕ) → x < period_in R k → Says R (set t k x) (k + 1) (attempt x)) → (n x : ℕ) → x + n ≡ period_in R k
@@ -101,15 +101,16 @@ module _ {R : Reduced} {t : List ℕ} {k : ℕ} (c : Ready R t k) (m : k < event
 
       go : (o : Option (List ℕ)) → Says R (set t k x) (k + 1) o → (NoneIn R t everyone k 0 (x + 1) → Says R t k (tries attempt n (x + 1)))
           → Says R t k (elim o [ some u ↦ some u | none ↦ tries attempt n (x + 1) ])
-      go (some u) p r = step_hit turn (put_here c m x) p refl
-      go none p r = r (step_missed turn (put_here c m x) p (omega (arith, m, c.sized.few)) refl refl all_joined).none_in
+      go (some u) p r = step_hit turn (put_here s c m x) p refl
+      go none p r = r (step_missed turn (put_here s c m x) p (omega (arith, m, s.few)) refl refl all_joined).none_in
 
-find_right : (R : Reduced) (f k : ℕ) (t : List ℕ) → f + k ≡ events_in R → Ready R t k → Says R t k (find R f k t)
+find_right : (R : Reduced) → Sized R → (f k : ℕ) (t : List ℕ) → f + k ≡ events_in R → Ready R t k → Says R t k (find R f k t)
 unfolding find
-find_right R zero k t e c = placed_all c (omega arith)
-find_right R (suc f) k t e c =
+find_right R s zero k t e c = placed_all s c (omega arith)
+find_right R s (suc f) k t e c =
     let m : k < events_in R = omega arith in
-    tries_right c m _ (attempt_right c m (find R f (k + 1)) (λ s r. find_right R f (k + 1) s (omega arith) r)) (period_in R k) 0 (omega arith) (turn_first t everyone k).none_in
+    let attempt = attempt_right s c m (find R f (k + 1)) (λ u r. find_right R s f (k + 1) u (omega arith) r) in
+    tries_right s c m _ attempt (period_in R k) 0 (omega arith) (turn_first t everyone k).none_in
 
 -- ---- the whole
 
@@ -121,13 +122,13 @@ Right N none = (t : List ℕ) → Feasible N t → ⊥
 pub smallest_right : (N : Network) → WellFormed N → Right N (smallest_of N)
 unfolding smallest_of reduced_for
 smallest_right N w =
-    go (find (reduced_for N) n 0 (zeros n)) (find_right (reduced_for N) n 0 (zeros n) (omega arith) (start (sized lent) (length-replicate n 0)))
+    go (find (reduced_for N) n 0 (zeros n)) (find_right (reduced_for N) served.sized n 0 (zeros n) (omega arith) (start (length-replicate n 0)))
   where
     n : ℕ
     n = events N
 
-    lent : BarsLent N (zeros (5 * arcs N))
-    lent = record { well = w; long = length-replicate (5 * arcs N) 0 }
+    served : Serves N (reduced_for N)
+    served = serves w (replicate (arcs N) (bar 0 0 0 0 0)) (length-replicate (arcs N) (bar 0 0 0 0 0))
 
     smallest : {t : List ℕ} → Looked N t true → Smallest N t
     smallest (found s) = s
@@ -136,5 +137,5 @@ smallest_right N w =
     infeasible (nothing f) = f
 
     go : (o : Option (List ℕ)) → Says (reduced_for N) (zeros n) 0 o → Right N o
-    go (some t) p = smallest (looked (serves lent) true (sought true p))
-    go none p = infeasible (looked (serves lent) false (sought false p))
+    go (some t) p = smallest (looked served true (sought true p))
+    go none p = infeasible (looked served false (sought false p))

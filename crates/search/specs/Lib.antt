@@ -5,3 +5,4 @@ pub mod Looked
 pub mod Threads
 pub mod Marks
 pub mod Steps
+pub mod Lent

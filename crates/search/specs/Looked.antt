@@ -1,20 +1,14 @@
 -- What the search finds: the smallest timetable that fits a network in unsigned numbers, and so the smallest feasible one of the network; or that there is
 -- none. Definitions alone.
-use Rattle.std.specs.Prelude.{◌≡◌, List, Bool, true, false, ℕ, length}
-use Rattle.network.specs.Network.{Network, events}
+use Rattle.std.specs.Prelude.{List, Bool, true, false, ℕ}
+use Rattle.network.specs.Network.{Network}
 use Rattle.network.specs.PublicRule.{Feasible, Smaller, Smallest}
-use Rattle.network.specs.Table.{WellFormed}
-use Rattle.search.specs.Reduced.{Reduced, events_in, Fitting, Sized}
+use Rattle.search.specs.Reduced.{Reduced, Fitting, Sized}
 
 -- of a network, the row as it is left, and the answer
 pub data Looked (N : Network) (t : List ℕ) : Bool → Type 0 where
   found : Smallest N t → Looked N t true
   nothing : ((u : List ℕ) → Feasible N u → ⊥) → Looked N t false
-
--- what it asks: a well-formed network, and a row with an entry for each event
-pub record Asked (N : Network) (t : List ℕ) : Type 0 where
-  pub well : WellFormed N
-  pub long : length t ≡ events N
 
 -- a network in unsigned numbers for the search, whose fitting timetables are the feasible ones of N
 pub record Serves (N : Network) (R : Reduced) : Type 0 where
@@ -22,11 +16,7 @@ pub record Serves (N : Network) (R : Reduced) : Type 0 where
   pub fits : (u : List ℕ) → Feasible N u → Fitting R u
   pub back : (u : List ℕ) → Fitting R u → Feasible N u
 
--- what is found of such a network, and what is asked
+-- what is found of such a network
 pub data Sought (R : Reduced) (t : List ℕ) : Bool → Type 0 where
   least_fits : Fitting R t → ((u : List ℕ) → Fitting R u → Smaller u t → ⊥) → Sought R t true
   none_fits : ((u : List ℕ) → Fitting R u → ⊥) → Sought R t false
-
-pub record Seeks (R : Reduced) (t : List ℕ) : Type 0 where
-  pub sized : Sized R
-  pub long : length t ≡ events_in R

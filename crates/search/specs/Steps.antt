@@ -1,9 +1,9 @@
 -- What the steps of the search ask and say. Definitions alone.
-use Rattle.std.specs.Prelude.{◌≡◌, List, Bool, true, false, ℕ, ◌+◌, ◌<◌, ◌≤◌, length, set}
+use Rattle.std.specs.Prelude.{◌≡◌, List, Bool, true, false, ℕ, ◌<◌, ◌≤◌, length}
 use Rattle.numbers.specs.Row.{at}
 use Rattle.network.specs.PublicRule.{Smaller}
-use Rattle.search.specs.Reduced.{Reduced, events_in, period_in, last_in, met_in, Fitting, Sized}
-use Rattle.search.specs.Marks.{mark, Grown, Ruled}
+use Rattle.search.specs.Reduced.{Reduced, arcs_in, events_in, period_in, last_in, met_in, Fitting}
+use Rattle.search.specs.Marks.{mark, Grown}
 
 -- the same times at the first k events
 pub record Agree (k : ℕ) (t u : List ℕ) : Type 0 where
@@ -12,7 +12,7 @@ pub record Agree (k : ℕ) (t u : List ℕ) : Type 0 where
 -- the first k times are below their periods and meet every arc between them
 pub record Partial (R : Reduced) (t : List ℕ) (k : ℕ) : Type 0 where
   pub inside : (i : ℕ) → i < k → at t i < period_in R i
-  pub met : (a : ℕ) → a < R.arcs → last_in R.bars a < k → met_in R.bars t a ≡ true
+  pub met : (a : ℕ) → a < arcs_in R → last_in R.bars a < k → met_in R.bars t a ≡ true
 
 -- the same times at those of the first k events that are blamed
 pub record AgreeOn (B : List Bool) (k : ℕ) (t u : List ℕ) : Type 0 where
@@ -24,7 +24,6 @@ pub record BlockedOn (R : Reduced) (t : List ℕ) (B : List Bool) (k : ℕ) : Ty
 
 -- what the search asks at event k
 pub record Ready (R : Reduced) (t : List ℕ) (k : ℕ) : Type 0 where
-  pub sized : Sized R
   pub long : length t ≡ events_in R
   pub most : k ≤ events_in R
   pub before : Partial R t k
@@ -50,17 +49,8 @@ pub record Turn (R : Reduced) (t : List ℕ) (k : ℕ) (u : List ℕ) (B : List 
   pub same : Agree k t u
   pub none_in : NoneIn R t B k 0 x
 
--- what the finder finds beside the first k times of t: r is the next possible time of event k from x on, each one before it ruled out by an arc to a
--- blamed event; or r is the period
-pub record Next (R : Reduced) (t : List ℕ) (k : ℕ) (B : List Bool) (x r : ℕ) : Type 0 where
-  pub least : x ≤ r
-  pub most : r ≤ period_in R k
-  pub passed : (y : ℕ) → x ≤ y → y < r → Ruled R.bars R.arcs t k B y
-  pub fit : r < period_in R k → Partial R (set t k r) (k + 1)
-
--- before time x, which the finder found, is tried: the blame has grown from that of the marks
+-- the same, where the blame has grown from that of the marks
 pub record Trying (R : Reduced) (t : List ℕ) (k : ℕ) (B : List Bool) (u : List ℕ) (B' : List Bool) (x : ℕ) : Type 0 where
   pub turn : Turn R t k u B' x
-  pub room : length B' ≡ 64
   pub grown : Grown B B'
-  pub fit : x < period_in R k → Partial R (set t k x) (k + 1)
+  pub within : x ≤ period_in R k

@@ -1,50 +1,55 @@
 // The smallest timetable that fits a network in unsigned numbers, or that there is none.
 #![tactic(auto)]
 
-ghost use Rattle.search.specs.Reduced.{reduced, reduced_at};
-ghost use Rattle.search.specs.Looked.{Sought, Seeks};
-ghost use Rattle.search.specs.Threads.{Lent};
+ghost use Rattle.std.specs.Prelude.{◌≡◌, length};
+ghost use Rattle.search.specs.Lent.{lent};
+ghost use Rattle.search.specs.Looked.{Sought};
 
+mod bars;
 mod blame;
 mod depth;
 mod marks;
-pub mod reduce;
+mod reduced;
 mod thread;
 
-// Looks for it over three rows of scratch.
-fn look(
-    periods: &[u32],
-    bars: &[u32],
-    m: usize,
-    times: &mut [u32],
-    firsts: &mut [u32],
-    nexts: &mut [u32],
-    blame: &mut [bool],
-) -> bool
-    requires seeks { Seeks (reduced periods.now bars.now m) times.old }
-    requires lent { Lent (reduced periods.now bars.now m) firsts.old nexts.old blame.old }
-    ensures { Sought (reduced_at periods bars m) times.new result }
-{
-    thread::thread(bars, firsts, nexts);
-    depth::place(periods, bars, &firsts[..], &nexts[..], times, blame, 0)
+pub use bars::reduce;
+pub use reduced::Reduced;
+use thread::ArcThreads;
+
+// The most events of a network.
+const EVENTS: usize = 64;
+
+// The most arcs of a longer network: 256 of the network's own, and one more for each two of 64 events.
+pub const ROOM: usize = 2272;
+
+// What the search asks of an arc again and again, worked out once: its earlier end and its later one, and the run of times that it bars there in each gap.
+#[derive(Clone, Copy, PartialEq, Eq, Debug)]
+pub struct Bar {
+    pub near: u32,
+    pub last: u32,
+    pub shift: u32,
+    pub run: u32,
+    pub gap: u32,
 }
 
-// The smallest that fits the m arcs, written into the row; or false where there is none.
-pub fn least(periods: &[u32], bars: &[u32], m: usize, times: &mut [u32]) -> bool
-    requires { Seeks (reduced periods.now bars.now m) times.old }
-    ensures { Sought (reduced_at periods bars m) times.new result }
+// What a row of arcs has before any is written.
+pub const NO_BAR: Bar = Bar {
+    near: 0,
+    last: 0,
+    shift: 0,
+    run: 0,
+    gap: 0,
+};
+
+// The smallest timetable that fits, written into the row; or false where there is none.
+// A bool beside the row: the row is the caller's, since nothing is allocated.
+pub fn least(network: &Reduced, times: &mut [u32]) -> bool
+    requires { length times.old ≡ length network.now.periods.now }
+    ensures { Sought (lent network.now) times.new result }
 {
-    let n = periods.len();
-    let mut firsts = [2272u32; 64];
-    let mut nexts = [0u32; 2272];
-    let mut blame = [false; 64];
-    look(
-        periods,
-        bars,
-        m,
-        times,
-        &mut firsts[..n],
-        &mut nexts[..m],
-        &mut blame[..],
-    )
+    let mut firsts = [None; EVENTS];
+    let mut nexts = [None; ROOM];
+    let threads = ArcThreads::new(*network, &mut firsts, &mut nexts);
+    let mut blame = [false; EVENTS];
+    depth::place(&threads, times, &mut blame, 0)
 }

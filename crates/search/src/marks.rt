@@ -1,28 +1,25 @@
 // The times that an event can't have beside those of earlier events: marked once in a row, with the earlier events to blame for it; and the walk along it.
-ghost use Rattle.std.specs.Prelude.{◌≡◌, ◌+◌, ◌≤◌, min, length};
+ghost use Rattle.std.specs.Prelude.{◌≤◌, min, length};
+ghost use Rattle.search.specs.Lent.{lent};
 ghost use Rattle.search.specs.Marks.{RunMarked, RunsAsk, RunsMarked, ArcAsks, ArcMarked, EventAsks, AllMarked, FirstFree, SomeFree, Walk};
 
-use crate::blame::{clear, either};
-use network::rule::{entry, time_at};
+use crate::thread::ArcThreads;
+use crate::{Bar, EVENTS};
 
-// The lesser of two.
-fn lesser(a: usize, b: usize) -> usize
-    ensures { result ≡ min a b }
-{
-    if a < b { a } else { b }
-}
+// How many places are read at once.
+const BLOCK: usize = 64;
 
 // Marks the places from `from` up to below `to`, as far as the row goes: is one of the marks new?
 fn mark_run(row: &mut [bool], from: usize, to: usize) -> bool
+    requires { from ≤ min to (length row.old) }
     ensures { RunMarked from to row.old row.new result }
 {
-    let end = lesser(to, row.len());
+    let end = to.min(row.len());
+    let run = &mut row[from..end];
     let mut fresh = false;
-    let mut x = from;
-    while x < end {
-        fresh = either(fresh, !row[x]);
-        row[x] = true;
-        x += 1;
+    for place in run.iter_mut() {
+        fresh |= !*place;
+        *place = true;
     }
     fresh
 }
@@ -32,90 +29,77 @@ fn mark_runs(row: &mut [bool], gap: usize, start: usize, run: usize) -> bool
     requires { RunsAsk gap start run row.old }
     ensures { RunsMarked gap start run row.old row.new result }
 {
+    let rest = (start + run).saturating_sub(gap);
     let mut fresh = false;
-    let mut from = start;
-    while from < row.len() {
-        fresh = either(fresh, mark_run(row, from, from + run));
-        from += gap;
+    for from in (start..row.len()).step_by(gap) {
+        fresh |= mark_run(row, from, from + run);
     }
-    let end = start + run;
-    either(fresh, mark_run(row, 0, end - lesser(gap, end)))
+    fresh | mark_run(row, 0, rest)
 }
 
 // Marks the times that one arc rules out at its later end, by one division.
-fn mark_arc(bars: &[u32], times: &[u32], arc: usize, row: &mut [bool]) -> bool
-    requires { ArcAsks bars.now times.now arc row.old }
-    ensures { ArcMarked bars.now times.now arc row.old row.new result }
+fn mark_arc(bar: &Bar, times: &[u32], row: &mut [bool]) -> bool
+    requires { ArcAsks bar.now times.now row.old }
+    ensures { ArcMarked bar.now times.now row.old row.new result }
 {
-    let at = 5 * arc;
-    let gap = bars[at + 4];
-    let start = (time_at(bars, times, at) + bars[at + 2]) % gap;
-    mark_runs(row, gap as usize, start as usize, entry(bars, at + 3))
+    let gap = bar.gap;
+    let start = (times[bar.near as usize] + bar.shift) % gap;
+    mark_runs(row, gap as usize, start as usize, bar.run as usize)
 }
 
 // Marks the times that the arcs between event k and earlier ones rule out, in a row without marks, and blames the earlier end of each arc with a new mark.
 pub fn mark_event(
-    bars: &[u32],
-    firsts: &[u32],
-    nexts: &[u32],
+    threads: &ArcThreads,
     times: &[u32],
     k: usize,
     row: &mut [bool],
-    blame: &mut [bool],
+    blame: &mut [bool; EVENTS],
 )
-    requires { EventAsks bars.now firsts.now nexts.now times.now k row.old blame.old }
-    ensures { AllMarked bars.now nexts.now times.now k row.new blame.new }
+    requires { EventAsks (lent threads.now.network) times.now k row.old }
+    ensures { AllMarked (lent threads.now.network) times.now k row.new blame.new }
 {
-    clear(blame);
-    let mut arc = entry(firsts, k);
-    while arc < nexts.len() {
-        let fresh = mark_arc(bars, times, arc, row);
-        let near = entry(bars, 5 * arc);
-        blame[near] = either(blame[near], fresh);
-        arc = entry(nexts, arc);
+    blame.fill(false);
+    let mut next = threads.firsts[k];
+    // The loop follows what each link gives, and counts no index.
+    while let Some(link) = next {
+        let arc = usize::from(link);
+        let bar = &threads.network.bars[arc];
+        let fresh = mark_arc(bar, times, row);
+        blame[bar.near as usize] |= fresh;
+        next = threads.nexts[arc];
     }
 }
 
-// Is one of 64 places free? They are read with no branch in between, and so many at once.
-fn some_free(row: &[bool], from: usize) -> bool
-    requires { from + 64 ≤ length row.now }
-    ensures { SomeFree row.now from 64 result }
+// Is one of these places free? They are read with no branch in between, and so many at once.
+fn some_free(places: &[bool]) -> bool
+    ensures { SomeFree places.now result }
 {
     let mut free = false;
-    let mut k = 0;
-    while k < 64 {
-        free = either(free, !row[from + k]);
-        k += 1;
+    for place in places {
+        free |= !*place;
     }
     free
 }
 
-// Passes over marked places, 64 at a time.
+// Passes over marked places, a block at a time.
 fn skip(row: &[bool], from: usize) -> usize
     requires { from ≤ length row.now }
     ensures { Walk row.now from result }
 {
-    let mut x = from;
-    while 64 <= row.len() - x {
-        if some_free(row, x) {
-            return x;
+    for start in (from..row.len()).step_by(BLOCK) {
+        if row.len() - start < BLOCK || some_free(&row[start..start + BLOCK]) {
+            return start;
         }
-        x += 64;
     }
-    x
+    row.len()
 }
 
-// The next possible time, from `from` on; or the row's length.
-pub fn next_time(row: &[bool], from: usize) -> usize
+// The next possible time, from `from` on.
+pub fn next_time(row: &[bool], from: usize) -> Option<usize>
     requires { from ≤ length row.now }
     ensures { FirstFree row.now from result }
 {
-    let mut x = skip(row, from);
-    while x < row.len() {
-        if !row[x] {
-            return x;
-        }
-        x += 1;
-    }
-    x
+    let start = skip(row, from);
+    let passed = row[start..].iter().position(|marked| !*marked)?;
+    Some(start + passed)
 }

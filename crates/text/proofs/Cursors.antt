@@ -1,237 +1,182 @@
--- Laws of the cursor: from what a scan found to what is handed out, and from that to the definitions. Assumes nothing.
+-- Laws of the readers: a signed number by that of its digits, and a record by its fields in turn. Assumes nothing.
 use mathlib.Core.Path.{◌≡◌, refl, sym, ap, ◌∙◌, subst}
 use mathlib.Core.Bool.{Bool, true, false, cond}
-use mathlib.Core.List.{List, [], ◌∷◌, nil≢cons, tail-eq_of_cons-eq}
-use mathlib.Core.Option.{Option, none, some}
-use Prim.Native.Nat.{ℕ, suc, ◌+◌, ◌-◌, ◌^◌, ◌≤◌, ◌<◌}
+use mathlib.Core.List.{List, [], ◌∷◌}
+use Rattle.std.specs.Prelude.{Option, None, Some, is_none, Result, Ok, Err, SomeIff, OkIff, FitsSigned, ◌-ℤ◌}
+use Rattle.std.specs.Option.{option_map}
+use Rattle.std.specs.Bool.{then_some}
+use Rattle.std.specs.Result.{result_ok}
+use Rattle.std.specs.Int.{w32}
+use Rattle.std.proofs.lemmas.Int.{ints}
+use Rattle.std.proofs.lemmas.Option.{none-some}
+use Prim.Native.Nat.{ℕ, zero, suc, ◌+◌, ◌-◌, ◌^◌, ◌≤◌, ◌<◌}
 use native.Mathlib.Omega.{arith}
 use lib.Dec.{eqb, ltb}
 use lib.IntN.{ℤ, pos}
-use lib.ListN.{length, get_or, take, drop, length-drop, drop_of_length-le}
-use lib.Seq.{drop-drop, take_all}
-use borrow.Author.Tests.{ltb-false, lt-ltb, le-ltb, eq-eqb, ne_eqb}
-use Rattle.text.specs.Line.{is_break, lines, fields}
+use lib.ListN.{length, get_or, take, drop}
+use lib.Seq.{take_all}
+use borrow.Author.Tests.{ltb-true, ltb-false, lt-ltb, le-ltb, eq-eqb, ne_eqb}
 use Rattle.text.specs.Number.{number, below, plain, signed, valued, minus}
-use Rattle.text.specs.Text.{field, end, numbered}
-use Rattle.text.proofs.Lines.{fields_from_in, fields_from_out, others, fields-first, others_from, lines-first}
-use Rattle.text.proofs.Scans.{at_byte, break_here, break_room}
-use Rattle.text.proofs.Records.{field_some, field_none}
-use Rattle.text.specs.Cursor.{line_length, field_length, fields_from, number_of, signed_of, FieldRead, FieldBad, absent, wrong, NumberBad, unread, other, LineAt, Begun}
-use Rattle.text.specs.declared.Number.{Number}
-use Rattle.text.specs.declared.Signed.{Signed}
+use Rattle.text.specs.Line.{fields}
+use Rattle.text.specs.Text.{and_then, field, end, numbered}
+use Rattle.std.specs.Borrow.{Bor}
+use Rattle.text.specs.Cursor.{fields_of_rest, first_by, after_first}
+use Rattle.text.proofs.Lines.{no_field}
 
 -- ---- a signed number
 
+-- under a smaller limit than that of the unsigned row
 below-below : (m n : ℕ) (o : Option ℕ) → m ≤ n → below m (below n o) ≡ below m o
 unfolding below
-below-below m n none h = refl
-below-below m n (some v) h = go (ltb v n) refl
+below-below m n None h = refl
+below-below m n (Some v) h = go (ltb v n) refl
   where
-    go : (t : Bool) → ltb v n ≡ t → below m (cond t (some v) none) ≡ cond (ltb v m) (some v) none
+    go : (t : Bool) → ltb v n ≡ t → below m (cond t (Some v) None) ≡ cond (ltb v m) (Some v) None
     go true e = refl
-    go false e = sym (ap (λ (t : Bool). cond t (some v) none) (le-ltb v m (omega (arith, ltb-false v n e))))
+    go false e = sym (ap (λ (t : Bool). cond t (Some v) None) (le-ltb v m (omega (arith, ltb-false v n e))))
 
--- the number of a field under a smaller limit, from that of the unsigned row
 small : (f : List ℕ) (m : ℕ) → m ≤ 2 ^ 32 → below m (number f) ≡ below m (plain f)
 unfolding plain
 small f m h = sym (below-below m (2 ^ 32) (number f) h)
 
-small_in : (f : List ℕ) (m v : ℕ) → m ≤ 2 ^ 32 → plain f ≡ some v → v < m → below m (number f) ≡ some v
-unfolding below
-small_in f m v h e l = small f m h ∙ ap (below m) e ∙ ap (λ (t : Bool). cond t (some v) none) (lt-ltb v m l)
-
-small_out : (f : List ℕ) (m v : ℕ) → m ≤ 2 ^ 32 → plain f ≡ some v → m ≤ v → below m (number f) ≡ none
-unfolding below
-small_out f m v h e l = small f m h ∙ ap (below m) e ∙ ap (λ (t : Bool). cond t (some v) none) (le-ltb v m l)
-
-small_none : (f : List ℕ) (m : ℕ) → m ≤ 2 ^ 32 → plain f ≡ none → below m (number f) ≡ none
-unfolding below
-small_none f m h e = small f m h ∙ ap (below m) e
-
-pub signed_empty : (f : List ℕ) → length f ≡ 0 → signed f ≡ none
-unfolding signed
-signed_empty [] h = refl
-signed_empty (b ∷ f) h = absurd (omega arith)
-
--- what follows the first byte
-abbrev pub past : List ℕ → List ℕ
-past f = take (length f - 1) (drop 1 f)
-
 -- the field f is the number h, below m, with this sign
 pub record Sized (f h : List ℕ) (sign : ℕ → ℤ) (m : ℕ) : Type 0 where
-  pub is : signed f ≡ valued sign (below m (number h))
-  pub most : m ≤ 2 ^ 32
+  pub is : signed f ≡ valued sign (below m (plain h))
 
 -- with a minus, and without
-pub signed-minus : (f : List ℕ) → 0 < length f → get_or f 0 0 ≡ 45 → Sized f (past f) minus (2 ^ 31 + 1)
+pub signed-minus : (f : List ℕ) → 0 < length f → get_or f 0 0 ≡ 45 → Sized f (take (length f - 1) (drop 1 f)) minus (2 ^ 31 + 1)
 unfolding signed
 signed-minus [] h e = absurd (omega arith)
 signed-minus (b ∷ f) h e = record {
   is = ap (λ (t : Bool). cond t (valued minus (below (2 ^ 31 + 1) (number f))) (valued pos (below (2 ^ 31) (number (b ∷ f))))) (eq-eqb b 45 e)
-      ∙ ap (λ (s : List ℕ). valued minus (below (2 ^ 31 + 1) (number s))) (sym (take_all (suc (length f) - 1) f (omega arith)));
-  most = omega arith;
+      ∙ ap (valued minus) (small f (2 ^ 31 + 1) (omega arith))
+      ∙ ap (λ (s : List ℕ). valued minus (below (2 ^ 31 + 1) (plain s))) (sym (take_all (suc (length f) - 1) f (omega arith)));
 }
 
-pub signed-plain : (f : List ℕ) → 0 < length f → (get_or f 0 0 ≡ 45 → ⊥) → Sized f f pos (2 ^ 31)
-unfolding signed
-signed-plain [] h e = absurd (omega arith)
-signed-plain (b ∷ f) h e = record {
-  is = ap (λ (t : Bool). cond t (valued minus (below (2 ^ 31 + 1) (number f))) (valued pos (below (2 ^ 31) (number (b ∷ f))))) (ne_eqb b 45 e);
-  most = omega arith;
+pub signed-plain : (f : List ℕ) → (0 < length f → get_or f 0 0 ≡ 45 → ⊥) → Sized f f pos (2 ^ 31)
+unfolding signed plain number valued below
+signed-plain [] d = record { is = refl }
+signed-plain (b ∷ f) d = record {
+  is = ap (λ (t : Bool). cond t (valued minus (below (2 ^ 31 + 1) (number f))) (valued pos (below (2 ^ 31) (number (b ∷ f))))) (ne_eqb b 45 (d (omega arith)))
+      ∙ ap (valued pos) (small (b ∷ f) (2 ^ 31) (omega arith));
 }
 
--- with either sign, by what an unsigned row would hold
+minus-fits : (v : ℕ) → v < 2 ^ 31 + 1 → FitsSigned w32 (minus v)
+minus-fits zero h = omega arith
+minus-fits (suc n) h = omega arith
+
+minus_unfit : (v : ℕ) → FitsSigned w32 (minus v) → v < 2 ^ 31 + 1
+minus_unfit zero h = omega arith
+minus_unfit (suc n) h = omega arith
+
+from_zero : (v : ℕ) → pos 0 -ℤ pos v ≡ minus v
+from_zero v = omega (arith, ints)
+
+-- by what an unsigned row would hold
 module _ {f h : List ℕ} {sign : ℕ → ℤ} {m : ℕ} (s : Sized f h sign m) where
-  pub size_bad : plain h ≡ none → signed f ≡ none
-  unfolding valued
-  size_bad e = s.is ∙ ap (valued sign) (small_none h m s.most e)
+  pub size_bad : None ≡ plain h → None ≡ signed f
+  unfolding valued below
+  size_bad e = sym (s.is ∙ ap (λ (o : Option ℕ). valued sign (below m o)) (sym e))
 
-  pub size_large : (v : ℕ) → plain h ≡ some v → m ≤ v → signed f ≡ none
-  unfolding valued
-  size_large v e l = s.is ∙ ap (valued sign) (small_out h m v s.most e l)
+  sized : {v : ℕ} → Some v ≡ plain h → signed f ≡ valued sign (cond (ltb v m) (Some v) None)
+  unfolding below
+  sized e = s.is ∙ ap (λ (o : Option ℕ). valued sign (below m o)) (sym e)
 
-  pub size_value : (v : ℕ) → plain h ≡ some v → v < m → signed f ≡ some (sign v)
-  unfolding valued
-  size_value v e l = s.is ∙ ap (valued sign) (small_in h m v s.most e l)
-
--- ---- the field at a place
-
-field_length_le : (s : List ℕ) → field_length s ≤ length s
-unfolding field_length
-field_length_le [] = omega arith
-field_length_le (b ∷ s) = go (eqb b 44) (field_length_le s)
+pub size_below_zero : {f h : List ℕ} {v : ℕ} (s : Sized f h minus (2 ^ 31 + 1)) → Some v ≡ plain h → (r : Option ℤ)
+    → SomeIff r (FitsSigned w32 (pos 0 -ℤ pos v)) (pos 0 -ℤ pos v) → r ≡ signed f
+unfolding valued
+size_below_zero {v = v} s e r i = by r i ∙ sym (sized s e)
   where
-    go : (t : Bool) → field_length s ≤ length s → cond t 0 (field_length s + 1) ≤ suc (length s)
-    go true ih = omega arith
-    go false ih = omega arith
+    none : (t : Bool) → ltb v (2 ^ 31 + 1) ≡ t → (FitsSigned w32 (pos 0 -ℤ pos v) → ⊥) → None ≡ valued minus (cond t (Some v) None)
+    none true p n = absurd (n (subst (FitsSigned w32) (sym (from_zero v)) (minus-fits v (ltb-true v (2 ^ 31 + 1) p))))
+    none false p n = refl
 
-pub field-end_in : (line : List ℕ) (at e : ℕ) → at ≤ length line → e ≡ at + field_length (drop at line) → e ≤ length line
-field-end_in line at e h p = omega (arith, field_length_le (drop at line), length-drop at line)
+    by : (q : Option ℤ) → SomeIff q (FitsSigned w32 (pos 0 -ℤ pos v)) (pos 0 -ℤ pos v) → q ≡ valued minus (cond (ltb v (2 ^ 31 + 1)) (Some v) None)
+    by None n = none (ltb v (2 ^ 31 + 1)) refl n
+    by (Some z) p =
+        ap (λ (y : ℤ). Some y) (p.1 ∙ from_zero v)
+        ∙ sym (ap (λ (t : Bool). valued minus (cond t (Some v) None)) (lt-ltb v (2 ^ 31 + 1) (minus_unfit v (subst (FitsSigned w32) (from_zero v) p.0))))
 
-pub field_here : (line : List ℕ) (at e : ℕ) → at ≤ length line → e ≡ at + field_length (drop at line)
-    → fields_from line at ≡ take (e - at) (drop at line) ∷ fields_from line (e + 1)
-field_here line at e h p =
-    let n : e - at ≡ field_length (drop at line) = omega arith in
-    fields_from_in line at h ∙ fields-first (drop at line)
-    ∙ ap (λ (k : ℕ). take k (drop at line) ∷ others (drop (field_length (drop at line)) (drop at line))) (sym n)
-    ∙ ap (λ (s : List ℕ). take (e - at) (drop at line) ∷ others s) (drop-drop (field_length (drop at line)) at line ∙ ap (λ (k : ℕ). drop k line) (sym p))
-    ∙ ap (λ (fs : List (List ℕ)). take (e - at) (drop at line) ∷ fs) (others_from line e (field-end_in line at e h p))
+pub size_from_zero : {f h : List ℕ} {v : ℕ} {E : Type 0} (s : Sized f h pos (2 ^ 31)) → Some v ≡ plain h → (r : Result ℤ E)
+    → OkIff r (FitsSigned w32 (pos v)) (pos v) → result_ok r ≡ signed f
+unfolding valued
+size_from_zero {v = v} {E = E} s e r i = by r i ∙ sym (sized s e)
+  where
+    none : (t : Bool) → ltb v (2 ^ 31) ≡ t → (FitsSigned w32 (pos v) → ⊥) → None ≡ valued pos (cond t (Some v) None)
+    none true p n = absurd (n (omega (arith, ltb-true v (2 ^ 31) p)))
+    none false p n = refl
 
--- what a field that was read, or was bad, gives to the record
-pub field_read : {A B : Type 0} {rule : List ℕ → Option A} {line : List ℕ} {at : ℕ} {v : A} {next : ℕ} (go : A → List (List ℕ) → Option B)
-    → FieldRead rule line at v next → field rule go (fields_from line at) ≡ go v (fields_from line next)
-field_read {rule = rule} {line = line} {next = next} go r = ap (field rule go) r.here ∙ field_some rule go r.text (fields_from line next) r.value
+    by : (q : Result ℤ E) → OkIff q (FitsSigned w32 (pos v)) (pos v) → result_ok q ≡ valued pos (cond (ltb v (2 ^ 31)) (Some v) None)
+    by (Err x) n = none (ltb v (2 ^ 31)) refl n
+    by (Ok z) p =
+        ap (λ (y : ℤ). Some y) p.1 ∙ sym (ap (λ (t : Bool). valued pos (cond t (Some v) None)) (lt-ltb v (2 ^ 31) (omega (arith, p.0))))
 
-pub field_bad : {A B : Type 0} {rule : List ℕ → Option A} {line : List ℕ} {at : ℕ} (go : A → List (List ℕ) → Option B)
-    → FieldBad rule line at → field rule go (fields_from line at) ≡ none
-unfolding field
-field_bad {rule = rule} go (absent e) = ap (field rule go) e
-field_bad {rule = rule} go (wrong f fs e n) = ap (field rule go) e ∙ field_none rule go f fs n
+-- ---- a record by its fields
 
-pub end_reached : {B : Type 0} (b : B) (line : List ℕ) (at : ℕ) → length line < at → end b (fields_from line at) ≡ some b
-unfolding end
-end_reached b line at h = ap (end b) (fields_from_out line at h)
+-- the next field by its rule, and the fields left after it
+module _ {A B : Type 0} (rule : List ℕ → Option A) (go : A → List (List ℕ) → Option B) (fs : List (List ℕ)) where
+  pub field_read : {v : A} {left : List (List ℕ)} → Some v ≡ first_by rule fs → left ≡ after_first fs → field rule go fs ≡ go v left
+  unfolding field and_then
+  field_read {v} {left} e l = by fs e l
+    where
+      by : (gs : List (List ℕ)) → Some v ≡ first_by rule gs → left ≡ after_first gs → field rule go gs ≡ go v left
+      by [] p q = absurd (none-some v (sym p))
+      by (f ∷ gs) p q = ap (λ (o : Option A). and_then o (λ a. go a gs)) (sym p) ∙ ap (go v) (sym q)
 
-pub end_missed : {B : Type 0} (b : B) (line : List ℕ) (at : ℕ) → at ≤ length line → end b (fields_from line at) ≡ none
-unfolding end
-end_missed b line at h = ap (end b) (fields_from_in line at h ∙ fields-first (drop at line))
-
-pub fields_from-start : (line : List ℕ) → fields_from line 0 ≡ fields line
-fields_from-start line = fields_from_in line 0 (omega arith)
+  pub field_bad : None ≡ first_by rule fs → field rule go fs ≡ None
+  unfolding field and_then
+  field_bad e = by fs e
+    where
+      by : (gs : List (List ℕ)) → None ≡ first_by rule gs → field rule go gs ≡ None
+      by [] p = refl
+      by (f ∷ gs) p = ap (λ (o : Option A). and_then o (λ a. go a gs)) (sym p)
 
 -- the record's number
-
-pub numbered_read : {B : Type 0} (k : ℕ) (line : List ℕ) (next : ℕ) (go : List (List ℕ) → Option B)
-    → FieldRead plain line 0 k next → numbered k go (fields line) ≡ go (fields_from line next)
+pub numbered_read : {B : Type 0} (k n : ℕ) (go : List (List ℕ) → Option B) (fs : List (List ℕ)) {left : List (List ℕ)} → Some n ≡ first_by plain fs
+    → left ≡ after_first fs → numbered k go fs ≡ cond (eqb n k) (go left) None
 unfolding numbered
-numbered_read k line next go r =
-    ap (field plain (λ n fs. cond (eqb n k) (go fs) none)) (sym (fields_from-start line)) ∙ field_read (λ n fs. cond (eqb n k) (go fs) none) r
-    ∙ ap (λ (t : Bool). cond t (go (fields_from line next)) none) (eq-eqb k k refl)
+numbered_read k n go fs e l = field_read plain (λ m gs. cond (eqb m k) (go gs) None) fs e l
 
-pub numbered_bad : {B : Type 0} (k : ℕ) (line : List ℕ) (go : List (List ℕ) → Option B) → NumberBad line k → numbered k go (fields line) ≡ none
+pub numbered_unread : {B : Type 0} (k : ℕ) (go : List (List ℕ) → Option B) (fs : List (List ℕ)) → None ≡ first_by plain fs → numbered k go fs ≡ None
 unfolding numbered
-numbered_bad k line go (unread b) =
-    ap (field plain (λ n fs. cond (eqb n k) (go fs) none)) (sym (fields_from-start line)) ∙ field_bad (λ n fs. cond (eqb n k) (go fs) none) b
-numbered_bad k line go (other n next r d) =
-    ap (field plain (λ n fs. cond (eqb n k) (go fs) none)) (sym (fields_from-start line)) ∙ field_read (λ n fs. cond (eqb n k) (go fs) none) r
-    ∙ ap (λ (t : Bool). cond t (go (fields_from line next)) none) (ne_eqb n k d)
+numbered_unread k go fs e = field_bad plain (λ m gs. cond (eqb m k) (go gs) None) fs e
 
--- ---- the record at a place
-
-line_length_le : (s : List ℕ) → line_length s ≤ length s
-unfolding line_length
-line_length_le [] = omega arith
-line_length_le (b ∷ s) = go (is_break (b ∷ s)) (line_length_le s)
+-- what follows the record's number, whatever is made of it
+numbered_by : {B : Type 0} (k : ℕ) (go : List (List ℕ) → Option B) (fs : List (List ℕ)) → numbered k go fs ≡ and_then (numbered k Some fs) go
+unfolding numbered field and_then
+numbered_by k go [] = refl
+numbered_by {B} k go (f ∷ fs) = by (plain f)
   where
-    go : (t : Bool) → line_length s ≤ length s → cond t 0 (line_length s + 1) ≤ suc (length s)
-    go true ih = omega arith
-    go false ih = omega arith
+    at : (t : Bool) → cond t (go fs) None ≡ and_then (cond t (Some fs) None) go
+    at true = refl
+    at false = refl
 
-lines_at : (text : List ℕ) (at e : ℕ) → at < length text → e ≡ at + line_length (drop at text)
-    → lines (drop at text) ≡ take (e - at) (drop at text) ∷ lines (drop (e + 2) text)
-lines_at text at e h p =
-    let s : List ℕ = drop at text in
-    let b : s ≡ get_or text at 0 ∷ drop (at + 1) text = at_byte text at h in
-    let n : line_length s ≡ e - at = omega arith in
-    let m : at + (line_length s + 2) ≡ e + 2 = omega arith in
-    subst (λ (l : List ℕ). lines l ≡ take (line_length l) l ∷ lines (drop (line_length l + 2) l)) (sym b) (lines-first (get_or text at 0) (drop (at + 1) text))
-    ∙ ap (λ (k : ℕ). take k s ∷ lines (drop (line_length s + 2) s)) n
-    ∙ ap (λ (l : List ℕ). take (e - at) s ∷ lines l) (drop-drop (line_length s + 2) at text ∙ ap (λ (k : ℕ). drop k text) m)
+    by : (o : Option ℕ) → and_then o (λ n. cond (eqb n k) (go fs) None) ≡ and_then (and_then o (λ n. cond (eqb n k) (Some fs) None)) go
+    by None = refl
+    by (Some n) = at (eqb n k)
 
-module _ (text : List ℕ) (at e : ℕ) (h : at < length text) (p : e + line_length (drop e text) ≡ at + line_length (drop at text)) (o : at ≤ e) where
-  pub line-broken : e < length text → is_break (drop e text) ≡ true → LineAt text at e (e + 2)
-  line-broken i b = record {
-    ordered = o;
-    within = omega arith;
-    onward = omega arith;
-    more = break_room text e i b;
-    told = lines_at text at e h (omega (arith, break_here text e i b));
-  }
+module _ {B : Type 0} (k : ℕ) (go : List (List ℕ) → Option B) (fs : List (List ℕ)) where
+  pub numbered_ok : {left : List (List ℕ)} → Some left ≡ numbered k Some fs → numbered k go fs ≡ go left
+  unfolding and_then
+  numbered_ok e = numbered_by k go fs ∙ ap (λ (o : Option (List (List ℕ))). and_then o go) (sym e)
 
-  pub line_last : length text ≤ e → e ≤ length text → LineAt text at e e
-  unfolding line_length
-  line_last i j = record {
-    ordered = o;
-    within = j;
-    onward = omega arith;
-    more = j;
-    told = lines_at text at e h (omega (arith, p, ap line_length (drop_of_length-le text {i = e} i)))
-        ∙ ap (λ (l : List ℕ). take (e - at) (drop at text) ∷ lines l) (drop_of_length-le text {i = e + 2} (omega arith) ∙ sym (drop_of_length-le text {i = e} i));
-  }
+  pub numbered_bad : None ≡ numbered k Some fs → numbered k go fs ≡ None
+  unfolding and_then
+  numbered_bad e = numbered_by k go fs ∙ ap (λ (o : Option (List (List ℕ))). and_then o go) (sym e)
 
-pub line_none : (text : List ℕ) (at : ℕ) → length text ≤ at → lines (drop at text) ≡ []
-unfolding lines
-line_none text at h = ap lines (drop_of_length-le text {i = at} h)
+pub then_left : {S A : Type 0} (f : S → A) (b : Bool) (s : S) → option_map f (then_some b s) ≡ cond b (Some (f s)) None
+then_left f true s = refl
+then_left f false s = refl
 
--- where the records begin
-pub begun : {text : List ℕ} {e next : ℕ} → LineAt text 0 e next → Begun text next
-begun h = record { within = h.more; rest = λ l ls p. tail-eq_of_cons-eq (sym h.told ∙ p) }
+-- after the last field
+pub ended : {B : Type 0} (b : B) (rest : Option (Bor (List ℕ))) → then_some (is_none rest) b ≡ end b (fields_of_rest rest)
+unfolding end
+ended b None = refl
+ended {B} b (Some line) = more (fields line.now) refl
+  where
+    more : (fs : List (List ℕ)) → fields line.now ≡ fs → None ≡ end b fs
+    more [] p = absurd (no_field line.now p)
+    more (f ∷ fs) p = refl
 
-pub begun_none : (text : List ℕ) → lines text ≡ [] → Begun text 0
-begun_none text e = record { within = omega arith; rest = λ l ls p. absurd (nil≢cons (sym e ∙ p)) }
-
--- ---- from an answer's case to what it says
-
-pub number_value : (o : Option ℕ) (v : ℕ) → number_of o ≡ Number.Value v → o ≡ some v
-number_value none v e = let z : ◌≡◌ {A = ℕ} 0 1 = cc in absurd (omega arith)
-number_value (some w) v e = ap {B = Option ℕ} some (cc)
-
-pub number_bad : (o : Option ℕ) → number_of o ≡ Number.Bad → o ≡ none
-number_bad none e = refl
-number_bad (some w) e = let z : ◌≡◌ {A = ℕ} 0 1 = cc in absurd (omega arith)
-
-pub signed_value : (o : Option ℤ) (v : ℤ) → signed_of o ≡ Signed.Value v → o ≡ some v
-signed_value none v e = let z : ◌≡◌ {A = ℕ} 0 1 = cc in absurd (omega arith)
-signed_value (some w) v e = ap {B = Option ℤ} some (cc)
-
-pub signed_bad : (o : Option ℤ) → signed_of o ≡ Signed.Bad → o ≡ none
-signed_bad none e = refl
-signed_bad (some w) e = let z : ◌≡◌ {A = ℕ} 0 1 = cc in absurd (omega arith)
-
--- a line's field, by its number
-module _ {A : Type 0} (rule : List ℕ → Option A) (line : List ℕ) (at e : ℕ) (h : at ≤ length line) (p : e ≡ at + field_length (drop at line)) where
-  pub read_here : (v : A) → rule (take (e - at) (drop at line)) ≡ some v → FieldRead rule line at v (e + 1)
-  read_here v q = record { text = take (e - at) (drop at line); here = field_here line at e h p; value = q }
-
-  pub bad_here : rule (take (e - at) (drop at line)) ≡ none → FieldBad rule line at
-  bad_here q = wrong (take (e - at) (drop at line)) (fields_from line (e + 1)) (field_here line at e h p) q
+-- a record's fields in turn
+pub ruleset in_turn = (numbered_ok, numbered_bad, field_read, field_bad)

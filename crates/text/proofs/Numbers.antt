@@ -2,14 +2,15 @@
 use mathlib.Core.Path.{◌≡◌, refl, sym, ap, ◌∙◌}
 use mathlib.Core.Bool.{Bool, true, false, cond, ◌&&◌}
 use mathlib.Core.List.{List, [], ◌∷◌, ◌++◌}
-use mathlib.Core.Option.{Option, none, some, none-ne-some}
+use Rattle.std.specs.Prelude.{Option, None, Some}
+use Rattle.std.proofs.lemmas.Option.{none-some}
 use Prim.Native.Nat.{ℕ, zero, suc, ◌+◌, ◌*◌, ◌-◌, ◌^◌, ◌/◌, ◌%◌, ◌≤◌, ◌<◌}
 use native.Mathlib.Omega.{arith}
 use native.Mathlib.Nat.{div-add-mod'}
 use lib.Dec.{leb, ltb, eqb}
 use lib.IntN.{ℤ, pos, negsuc}
 use lib.ListN.{length, get_or, length-append}
-use borrow.Author.Tests.{ltb-true, ltb-false, lt-ltb, le-ltb, le-leb, lt-leb, ne_eqb}
+use borrow.Author.Tests.{leb-true, ltb-true, ltb-false, lt-ltb, le-ltb, le-leb, lt-leb, ne_eqb}
 use Rattle.text.specs.Number.{is_digit, digits, number, below, plain, signed, valued, minus, last_digits, decimal, decimal_ℤ}
 use Rattle.text.specs.Text.{and_then}
 use Rattle.text.proofs.Each.{Each, nil, one, each_append, Above}
@@ -19,23 +20,20 @@ use Rattle.text.proofs.Each.{Each, nil, one, each_append, Above}
 pub is_digit_within : (b : ℕ) → 48 ≤ b → b ≤ 57 → is_digit b ≡ true
 is_digit_within b h k = simp (le-leb 48 b h, le-leb b 57 k)
 
-pub low_digit : (b : ℕ) → b < 48 → is_digit b ≡ false
-low_digit b h = simp (lt-leb 48 b h)
-
-pub high_digit : (b : ℕ) → 57 < b → is_digit b ≡ false
-high_digit b h = go (leb 48 b)
+pub no_digit : (b : ℕ) → (48 ≤ b → 57 < b) → is_digit b ≡ false
+no_digit b h = go (leb 48 b) refl
   where
-    go : (t : Bool) → (t && leb b 57) ≡ false
-    go true = lt-leb b 57 h
-    go false = refl
+    go : (t : Bool) → leb 48 b ≡ t → (t && leb b 57) ≡ false
+    go true e = lt-leb b 57 (h (leb-true 48 b e))
+    go false e = refl
 
 pub digits_more : (v b : ℕ) (s : List ℕ) → 48 ≤ b → b ≤ 57 → digits v (b ∷ s) ≡ digits (v * 10 + (b - 48)) s
 unfolding digits
-digits_more v b s h k = ap (λ (t : Bool). cond t (digits (v * 10 + (b - 48)) s) none) (is_digit_within b h k)
+digits_more v b s h k = ap (λ (t : Bool). cond t (digits (v * 10 + (b - 48)) s) None) (is_digit_within b h k)
 
-pub digits-stop : (v b : ℕ) (s : List ℕ) → is_digit b ≡ false → digits v (b ∷ s) ≡ none
+pub digits-stop : (v b : ℕ) (s : List ℕ) → is_digit b ≡ false → digits v (b ∷ s) ≡ None
 unfolding digits
-digits-stop v b s e = ap (λ (t : Bool). cond t (digits (v * 10 + (b - 48)) s) none) e
+digits-stop v b s e = ap (λ (t : Bool). cond t (digits (v * 10 + (b - 48)) s) None) e
 
 digits_append : (v : ℕ) (s t : List ℕ) → digits v (s ++ t) ≡ and_then (digits v s) (λ w. digits w t)
 unfolding digits and_then
@@ -43,23 +41,23 @@ digits_append v [] t = refl
 digits_append v (b ∷ s) t = go (is_digit b) (digits_append (v * 10 + (b - 48)) s t)
   where
     go : (d : Bool) → digits (v * 10 + (b - 48)) (s ++ t) ≡ and_then (digits (v * 10 + (b - 48)) s) (λ w. digits w t)
-        → cond d (digits (v * 10 + (b - 48)) (s ++ t)) none ≡ and_then (cond d (digits (v * 10 + (b - 48)) s) none) (λ w. digits w t)
+        → cond d (digits (v * 10 + (b - 48)) (s ++ t)) None ≡ and_then (cond d (digits (v * 10 + (b - 48)) s) None) (λ w. digits w t)
     go true ih = ih
     go false ih = refl
 
 -- what is too large so far stays so
-pub digits_large : (m v : ℕ) (s : List ℕ) → m ≤ v → below m (digits v s) ≡ none
+pub digits_large : (m v : ℕ) (s : List ℕ) → m ≤ v → below m (digits v s) ≡ None
 unfolding digits below
-digits_large m v [] h = ap (λ (t : Bool). cond t (some v) none) (le-ltb v m h)
+digits_large m v [] h = ap (λ (t : Bool). cond t (Some v) None) (le-ltb v m h)
 digits_large m v (b ∷ s) h = go (is_digit b) (digits_large m (v * 10 + (b - 48)) s (omega arith))
   where
-    go : (d : Bool) → below m (digits (v * 10 + (b - 48)) s) ≡ none → below m (cond d (digits (v * 10 + (b - 48)) s) none) ≡ none
+    go : (d : Bool) → below m (digits (v * 10 + (b - 48)) s) ≡ None → below m (cond d (digits (v * 10 + (b - 48)) s) None) ≡ None
     go true ih = ih
     go false ih = refl
 
-pub below_some : (m v : ℕ) → v < m → below m (some v) ≡ some v
+pub below_some : (m v : ℕ) → v < m → below m (Some v) ≡ Some v
 unfolding below
-below_some m v h = ap (λ (t : Bool). cond t (some v) none) (lt-ltb v m h)
+below_some m v h = ap (λ (t : Bool). cond t (Some v) None) (lt-ltb v m h)
 
 -- ---- fewest digits
 
@@ -96,28 +94,28 @@ decimal_more n h =
 
 -- ---- and they read back
 
-digits_one : (v b : ℕ) → 48 ≤ b → b ≤ 57 → digits v (b ∷ []) ≡ some (v * 10 + (b - 48))
+digits_one : (v b : ℕ) → 48 ≤ b → b ≤ 57 → digits v (b ∷ []) ≡ Some (v * 10 + (b - 48))
 unfolding digits
 digits_one v b h k = digits_more v b [] h k
 
-digits_last : (k n : ℕ) → n < k → digits 0 (last_digits k n) ≡ some n
+digits_last : (k n : ℕ) → n < k → digits 0 (last_digits k n) ≡ Some n
 unfolding and_then
 digits_last zero n h = absurd (omega arith)
 digits_last (suc k) n h = go (ltb n 10) refl (digits_last k (n / 10))
   where
-    go : (t : Bool) → ltb n 10 ≡ t → (n / 10 < k → digits 0 (last_digits k (n / 10)) ≡ some (n / 10)) → digits 0 (last_digits (suc k) n) ≡ some n
+    go : (t : Bool) → ltb n 10 ≡ t → (n / 10 < k → digits 0 (last_digits k (n / 10)) ≡ Some (n / 10)) → digits 0 (last_digits (suc k) n) ≡ Some n
     go true e ih =
         let l : n < 10 = ltb-true n 10 e in
-        ap (digits 0) (last_digits_few k n l) ∙ digits_one 0 (48 + n) (omega arith) (omega arith) ∙ ap {B = Option ℕ} some (omega arith)
+        ap (digits 0) (last_digits_few k n l) ∙ digits_one 0 (48 + n) (omega arith) (omega arith) ∙ ap {B = Option ℕ} Some (omega arith)
     go false e ih =
         let l : 10 ≤ n = ltb-false n 10 e in
         ap (digits 0) (last_digits_more k n l) ∙ digits_append 0 (last_digits k (n / 10)) ((48 + n % 10) ∷ [])
         ∙ ap (λ (o : Option ℕ). and_then o (λ w. digits w ((48 + n % 10) ∷ []))) (ih (omega (arith, div-add-mod' n 10)))
         ∙ digits_one (n / 10) (48 + n % 10) (omega arith) (omega (arith, div-add-mod' n 10))
-        ∙ ap {B = Option ℕ} some (omega (arith, div-add-mod' n 10))
+        ∙ ap {B = Option ℕ} Some (omega (arith, div-add-mod' n 10))
 
 -- digits with a value are a number, if there are any
-number_some : (s : List ℕ) (n : ℕ) → 0 < length s → digits 0 s ≡ some n → number s ≡ some n
+number_some : (s : List ℕ) (n : ℕ) → 0 < length s → digits 0 s ≡ Some n → number s ≡ Some n
 unfolding number
 number_some [] n h e = absurd (omega arith)
 number_some (b ∷ s) n h e = e
@@ -129,7 +127,7 @@ last_digits-length k n = go (ltb n 10) refl
     go true e = omega (arith, ap length (last_digits_few k n (ltb-true n 10 e)))
     go false e = omega (arith, simp length-append at (ap length (last_digits_more k n (ltb-false n 10 e))))
 
-pub number-decimal : (n : ℕ) → number (decimal n) ≡ some n
+pub number-decimal : (n : ℕ) → number (decimal n) ≡ Some n
 unfolding decimal
 number-decimal n = number_some (decimal n) n (last_digits-length n n) (digits_last (suc n) n (omega arith))
 
@@ -151,7 +149,7 @@ unfolding decimal_ℤ
 decimal_ℤ_above (pos n) = decimal_above n
 decimal_ℤ_above (negsuc n) = one {b = 45} (omega arith) (decimal_above (suc n))
 
-pub plain-decimal : (n : ℕ) → n < 2 ^ 32 → plain (decimal n) ≡ some n
+pub plain-decimal : (n : ℕ) → n < 2 ^ 32 → plain (decimal n) ≡ Some n
 unfolding plain
 plain-decimal n h = ap (below (2 ^ 32)) (number-decimal n) ∙ below_some (2 ^ 32) n h
 
@@ -161,9 +159,9 @@ pub data Holds32 : ℤ → Type 0 where
   down : {n : ℕ} → n < 2 ^ 31 → Holds32 (negsuc n)
 
 -- a number that begins with no minus
-signed_above : (s : List ℕ) (n : ℕ) → n < 2 ^ 31 → number s ≡ some n → (eqb (get_or s 0 0) 45 ≡ false) → signed s ≡ some (pos n)
+signed_above : (s : List ℕ) (n : ℕ) → n < 2 ^ 31 → number s ≡ Some n → (eqb (get_or s 0 0) 45 ≡ false) → signed s ≡ Some (pos n)
 unfolding signed number valued
-signed_above [] n h e f = absurd (none-ne-some n e)
+signed_above [] n h e f = absurd (none-some n e)
 signed_above (b ∷ s) n h e f =
     ap (λ (t : Bool). cond t (valued minus (below (2 ^ 31 + 1) (number s))) (valued pos (below (2 ^ 31) (number (b ∷ s))))) f
     ∙ ap (λ (o : Option ℕ). valued pos (below (2 ^ 31) o)) e ∙ ap (valued pos) (below_some (2 ^ 31) n h)
@@ -183,7 +181,7 @@ first_last (suc k) n h = go (ltb n 10) refl (first_last k (n / 10))
     go true e ih = omega arith
     go false e ih = first-append (last_digits k (n / 10)) (48 + n % 10) (ih (omega (arith, div-add-mod' n 10, ltb-false n 10 e)))
 
-pub signed_decimal : (z : ℤ) → Holds32 z → signed (decimal_ℤ z) ≡ some z
+pub signed_decimal : (z : ℤ) → Holds32 z → signed (decimal_ℤ z) ≡ Some z
 unfolding decimal_ℤ decimal signed valued
 signed_decimal (pos n) (up h) =
     signed_above (decimal n) n h (number-decimal n) (ne_eqb (get_or (decimal n) 0 0) 45 (λ e. omega (arith, first_last (suc n) n (omega arith), e)))

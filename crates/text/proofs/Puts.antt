@@ -1,40 +1,28 @@
--- Laws of writing: one byte, parts one after the other, numbers, and the lines of a text, record by record. Assumes nothing.
+-- Laws of printing: bytes that are put one part after the other, numbers, and the lines of a text, record by record. Assumes nothing.
 use mathlib.Core.Path.{◌≡◌, refl, sym, ap, ◌∙◌, subst}
 use mathlib.Core.Bool.{Bool, true, false}
 use mathlib.Core.List.{List, [], ◌∷◌, ◌++◌, append_assoc, append-nil}
-use Prim.Native.Nat.{ℕ, zero, suc, ◌+◌, ◌-◌, ◌/◌, ◌%◌, ◌^◌, ◌≤◌, ◌<◌}
+use Prim.Native.Nat.{ℕ, zero, suc, ◌+◌, ◌*◌, ◌/◌, ◌%◌, ◌^◌, ◌≤◌, ◌<◌}
 use native.Mathlib.Omega.{arith}
 use native.Mathlib.Numerals.{add-one}
 use native.Mathlib.Nat.{div-add-mod', add-zero, pow-suc}
 use lib.Dec.{ltb}
-use lib.IntN.{ℤ, pos, negsuc, nat_abs, ◌-ℤ◌}
-use lib.ListN.{length, get_or, take, drop, set, length-append, length-drop, take-append-drop}
-use lib.Seq.{paste, paste-suc, take-length, take_all, append_snoc, set_split, take_at, length-take-le, drop-drop, take-suc, drop-append-add}
-use lib.Signed.{◌≤ℤ◌, ◌<ℤ◌}
+use lib.IntN.{ℤ, pos, negsuc, nat_abs}
+use lib.ListN.{length, get_or, take, drop, set, length-append, take-append-drop}
+use lib.Seq.{append_snoc, set_split, take_all, length-take-le, take-suc}
+use lib.Signed.{lt_z}
 use borrow.Author.Tests.{ltb-true, ltb-false}
 use mir.Syntax.{w32}
-use mir.Val.{SFits, of_z, to_z}
-use Rattle.numbers.specs.Row.{at_ℤ}
-use Rattle.numbers.proofs.Integers.{of_abs, of_lt, of_sfits}
-use Rattle.numbers.proofs.Bits.{of}
+use mir.Val.{SFits}
+use Rattle.numbers.proofs.Integers.{of_abs, of_sfits}
+use Rattle.text.specs.Bytes.{comma}
 use Rattle.text.specs.Number.{decimal, decimal_ℤ}
 use Rattle.text.specs.Line.{joined, broken}
-use Rattle.text.specs.Text.{Arc, arc, arc_at, arcs_of, event_fields, arc_fields, Layout, event_layout, arc_layout, record_lines, printed}
+use Rattle.text.specs.Text.{Arc, arc, event_fields, arc_fields, Layout, event_layout, arc_layout, record_lines, printed}
 use Rattle.text.specs.Fill.{onto}
-use Rattle.text.specs.Put.{put, Put, comma_after, break_after, record_line}
+use Rattle.text.specs.Put.{Put, break_after, record_line, longest_event, longest_arc}
+use Rattle.text.specs.Sink.{SinkLaws, kept_length, then_put}
 use Rattle.text.proofs.Numbers.{decimal_few, decimal_more}
-use Rattle.text.proofs.Rows.{arcs-length, arcs-at}
-
-put-length : (at : ℕ) (s row : List ℕ) → at + length s ≤ length row → length (put at s row) ≡ length row
-put-length at s row h =
-    length-append (take at row ++ s) (drop (at + length s) row)
-    ∙ omega (arith, length-append (take at row) s, length-take-le at row (omega arith), length-drop (at + length s) row)
-
-pub kept_length : {s : List ℕ} {at : ℕ} {before after : List ℕ} {next : ℕ} → at + length s ≤ length before → Put s at before after next → length after ≡ length before
-kept_length {s} {at} {before} h p = ap length p.is ∙ put-length at s before h
-
-pub put_same : {s t : List ℕ} {at : ℕ} {x y : List ℕ} {next : ℕ} → s ≡ t → Put s at x y next → Put t at x y next
-put_same {at = at} {x = x} {y = y} {next = next} e p = subst (λ (s : List ℕ). Put s at x y next) e p
 
 -- what was put at the beginning stands there
 pub put-onto : {s row is : List ℕ} {next : ℕ} → Put s 0 row is next → (is ≡ onto s row) × (next ≡ length s)
@@ -42,88 +30,60 @@ put-onto {s} {row} p =
     let z : 0 + length s ≡ length s = omega arith in
     (p.is ∙ ap (λ (k : ℕ). s ++ drop k row) z, p.place ∙ z)
 
--- one byte
-put_byte : (row : List ℕ) (at b : ℕ) → at < length row → Put (b ∷ []) at row (set row at b) (at + 1)
-put_byte row at b h = record {
-  is = set_split row at b h ∙ sym (append_snoc (take at row) b (drop (suc at) row)) ∙ ap (λ (k : ℕ). take at row ++ (b ∷ []) ++ drop k row) (sym (add-one at));
-  place = refl;
-}
+put_same : {s t : List ℕ} {at : ℕ} {x y : List ℕ} {next : ℕ} → s ≡ t → Put t at x y next → Put s at x y next
+put_same {at = at} {x = x} {y = y} {next = next} e p = subst (λ (u : List ℕ). Put u at x y next) (sym e) p
 
--- ---- one part after the other
-
-put-put : (at : ℕ) (s t row : List ℕ) → at + length s + length t ≤ length row → put (at + length s) t (put at s row) ≡ put at (s ++ t) row
-put-put at s t row h =
-    let A : List ℕ = take at row ++ s in
-    let D : List ℕ = drop (at + length s) row in
-    let n : length A ≡ at + length s = length-append (take at row) s ∙ ap (λ (k : ℕ). k + length s) (length-take-le at row (omega arith)) in
-    let m : at + length s + length t ≡ at + length (s ++ t) = omega (arith, length-append s t) in
-    ap (λ (l : List ℕ). l ++ t ++ drop (at + length s + length t) (A ++ D)) (take_at A D (at + length s) n)
-    ∙ ap (λ (k : ℕ). A ++ t ++ drop (k + length t) (A ++ D)) (sym n)
-    ∙ ap (λ (l : List ℕ). A ++ t ++ l) (drop-append-add A D (length t) ∙ drop-drop (length t) (at + length s) row ∙ ap (λ (k : ℕ). drop k row) m)
-    ∙ ap (λ (l : List ℕ). l ++ drop (at + length (s ++ t)) row) (append_assoc (take at row) s t)
-
-then_put : {s t : List ℕ} {at : ℕ} {x y z : List ℕ} {p q : ℕ} → at + length s + length t ≤ length x → Put s at x y p → Put t p y z q → Put (s ++ t) at x z q
-then_put {s} {t} {at} {x} {y} {z} {p} {q} h a b = record {
-  is = b.is ∙ ap (λ (k : ℕ). put k t y) a.place ∙ ap (put (at + length s) t) a.is ∙ put-put at s t x h;
-  place = omega (arith, a.place, b.place, length-append s t);
-}
+-- ---- what a sink took, part by part
 
 -- all parts
 abbrev pub run : List (List ℕ) → List ℕ
 run [] = []
 run (s ∷ ps) = s ++ run ps
 
--- there is room for all of them
-pub record Room (ps : List (List ℕ)) (at : ℕ) (row : List ℕ) : Type 0 where
-  pub fits : at + length (run ps) ≤ length row
+-- a text that is put part by part
+pub record Parts (s : List ℕ) (ps : List (List ℕ)) : Type 0 where
+  pub is : s ≡ run ps
 
--- so for the first, and then for the rest
-pub room_first : {s : List ℕ} {ps : List (List ℕ)} {at : ℕ} {x : List ℕ} → Room (s ∷ ps) at x → at + length s ≤ length x
-room_first {s} {ps} r = omega (arith, r.fits, length-append s (run ps))
+module _ {X : Type 0} (room : ℕ → X → Type 0) where
+  -- there is room for all of them
+  pub record Room (ps : List (List ℕ)) (x : X) : Type 0 where
+    pub fits : room (length (run ps)) x
 
-pub room_rest : {s : List ℕ} {ps : List (List ℕ)} {at : ℕ} {x y : List ℕ} {p : ℕ} → Room (s ∷ ps) at x → Put s at x y p → Room ps p y
-room_rest {s} {ps} r a = record { fits = omega (arith, r.fits, length-append s (run ps), a.place, kept_length (room_first r) a) }
+module _ {X : Type 0} (took : List ℕ → X → X → Type 0) where
+  -- all of them went in
+  pub record Took (ps : List (List ℕ)) (x y : X) : Type 0 where
+    pub all : took (run ps) x y
 
-pub put_first : {s : List ℕ} {ps : List (List ℕ)} {at : ℕ} {x y z : List ℕ} {p q : ℕ} → Room (s ∷ ps) at x → Put s at x y p → Put (run ps) p y z q → Put (run (s ∷ ps)) at x z q
-put_first {s} {ps} r a b = then_put (omega (arith, r.fits, length-append s (run ps))) a b
+module _ {X : Type 0} {room : ℕ → X → Type 0} {took : List ℕ → X → X → Type 0} (laws : SinkLaws room took) where
+  pub room_for : {s : List ℕ} {ps : List (List ℕ)} {x : X} → Parts s ps → room (length s) x → Room room ps x
+  room_for {x = x} e h = record { fits = subst (λ (s : List ℕ). room (length s) x) e.is h }
 
-pub put_one : {s : List ℕ} {at : ℕ} {x y : List ℕ} {p : ℕ} → Put s at x y p → Put (run (s ∷ [])) at x y p
-put_one {s} a = put_same (sym (append-nil s)) a
+  -- so for the first, and then for the rest
+  pub room_first : {s : List ℕ} {ps : List (List ℕ)} {x : X} → Room room (s ∷ ps) x → room (length s) x
+  room_first {s} {ps} r = laws.fewer (length s) (omega (arith, length-append s (run ps))) r.fits
 
--- ---- one part over another
+  pub room_rest : {s : List ℕ} {ps : List (List ℕ)} {x y : X} → Room room (s ∷ ps) x → took s x y → Room room ps y
+  room_rest {s} {ps} {x} r p = record { fits = laws.rest (length (run ps)) (subst (λ (n : ℕ). room n x) (length-append s (run ps)) r.fits) p }
 
-put-put_over : (at : ℕ) (s t row : List ℕ) → length s ≤ length t → at + length t ≤ length row → put at t (put at s row) ≡ put at t row
-put-put_over at s t row h k =
-    let A : List ℕ = take at row ++ s in
-    let D : List ℕ = drop (at + length s) row in
-    let m : ℕ = length t - length s in
-    let n : length (take at row) ≡ at = length-take-le at row (omega arith) in
-    let e : at + length t ≡ length A + m = omega (arith, length-append (take at row) s) in
-    let f : at + length s + m ≡ at + length t = omega arith in
-    ap (λ (l : List ℕ). take at l ++ t ++ drop (at + length t) (A ++ D)) (append_assoc (take at row) s D)
-    ∙ ap (λ (l : List ℕ). l ++ t ++ drop (at + length t) (A ++ D)) (take_at (take at row) (s ++ D) at n)
-    ∙ ap (λ (j : ℕ). take at row ++ t ++ drop j (A ++ D)) e
-    ∙ ap (λ (l : List ℕ). take at row ++ t ++ l) (drop-append-add A D m ∙ drop-drop m (at + length s) row ∙ ap (λ (j : ℕ). drop j row) f)
+  pub moved : {ps : List (List ℕ)} {x y : X} → y ≡ x → Room room ps x → Room room ps y
+  moved {ps} e r = subst (Room room ps) (sym e) r
 
-put_over : {s t : List ℕ} {at : ℕ} {x y z : List ℕ} {p q : ℕ} → length s ≤ length t → at + length t ≤ length x → Put s at x y p → Put t at y z q → Put t at x z q
-put_over {s} {t} {at} {x} h k a b = record { is = b.is ∙ ap (put at t) a.is ∙ put-put_over at s t x h k; place = b.place }
+  took_same : {s t : List ℕ} {x y : X} → s ≡ t → took t x y → took s x y
+  took_same {x = x} {y = y} e p = subst (λ (u : List ℕ). took u x y) (sym e) p
 
-put_again : {s : List ℕ} {at : ℕ} {x y : List ℕ} {p : ℕ} → at + length s ≤ length x → Put s at x y p → Put s at y y p
-put_again {s} {at} {x} h a = record { is = a.is ∙ sym (put-put_over at s s x (omega arith) h) ∙ ap (put at s) (sym a.is); place = a.place }
+  pub first : {s : List ℕ} {ps : List (List ℕ)} {x y z : X} → Room room (s ∷ ps) x → took s x y → Took took ps y z → Took took (s ∷ ps) x z
+  first r p q = record { all = laws.joins r.fits p q.all }
+
+  pub last : {s : List ℕ} {x y : X} → took s x y → Took took (s ∷ []) x y
+  last {s} p = record { all = took_same (append-nil s) p }
+
+  pub whole : {s : List ℕ} {ps : List (List ℕ)} {x y : X} → Parts s ps → Took took ps x y → took s x y
+  whole e p = took_same e.is p.all
 
 -- ---- digits
 
-pub put_few : (row : List ℕ) (at n : ℕ) → n < 10 → at < length row → Put (decimal n) at row (set row at (48 + n)) (at + 1)
-put_few row at n h i = put_same (sym (decimal_few n h)) (put_byte row at (48 + n) i)
-
 pub decimal_shorter : (n : ℕ) → 10 ≤ n → length (decimal n) ≡ length (decimal (n / 10)) + 1
 decimal_shorter n h = ap length (decimal_more n h) ∙ length-append (decimal (n / 10)) ((48 + n % 10) ∷ [])
-
-pub put_digit : (row after : List ℕ) (at next n : ℕ) → 10 ≤ n → at + length (decimal n) ≤ length row
-    → Put (decimal (n / 10)) at row after next → Put (decimal n) at row (set after next (48 + n % 10)) (next + 1)
-put_digit row after at next n h i p =
-    let l = decimal_shorter n h in
-    put_same (sym (decimal_more n h)) (then_put (omega arith) p (put_byte after next (48 + n % 10) (omega (arith, p.place, kept_length (omega arith) p))))
 
 -- a number below ten to the k has at most k digits
 decimal-short : (k n : ℕ) → n < 10 ^ suc k → length (decimal n) ≤ suc k
@@ -138,50 +98,48 @@ decimal-short (suc k) n h = by (ltb n 10) refl (decimal-short k (n / 10))
 pub ten_digits : (n : ℕ) → n < 2 ^ 32 → length (decimal n) ≤ 10
 ten_digits n h = decimal-short 9 n (omega arith)
 
+-- one byte
+put_byte : (row : List ℕ) (at b : ℕ) → at < length row → Put (b ∷ []) at row (set row at b) (at + 1)
+put_byte row at b h = record {
+  is = set_split row at b h ∙ sym (append_snoc (take at row) b (drop (suc at) row)) ∙ ap (λ (k : ℕ). take at row ++ (b ∷ []) ++ drop k row) (sym (add-one at));
+  place = refl;
+}
+
+-- a number below ten is one byte, and any other ends in one
+pub put_few : (row : List ℕ) (at n : ℕ) → n < 10 → at < length row → Put (decimal n) at row (set row at (48 + n)) (at + 1)
+put_few row at n h i = put_same (decimal_few n h) (put_byte row at (48 + n) i)
+
+pub put_more : {row after : List ℕ} {at next : ℕ} (n : ℕ) → 10 ≤ n → at + length (decimal n) ≤ length row → Put (decimal (n / 10)) at row after next
+    → Put (decimal n) at row (set after next (48 + n % 10)) (next + 1)
+put_more {after = after} {next = next} n h i p =
+    let l = decimal_shorter n h in
+    let last = put_byte after next (48 + n % 10) (omega (arith, i, l, p.place, kept_length (omega (arith, i, l)) p)) in
+    put_same (decimal_more n h) (then_put (omega (arith, i, ap length (decimal_more n h))) p last)
+
 -- ---- signed numbers
 
-pub nat_abs_below_zero : (z : ℤ) → z <ℤ pos 0 → pos 0 -ℤ z ≡ pos (nat_abs z)
-nat_abs_below_zero (pos n) h = absurd (omega (arith, of_lt (pos n) (pos 0) h))
-nat_abs_below_zero (negsuc n) h = ap pos (omega arith)
+pub minus_digits : {n : ℕ} (z : ℤ) → lt_z z (pos 0) ≡ true → n ≡ nat_abs z → Parts (decimal_ℤ z) ((45 ∷ []) ∷ decimal n ∷ [])
+unfolding decimal_ℤ
+minus_digits (pos m) e i = absurd (omega (arith, ltb-true m 0 e))
+minus_digits {n} (negsuc m) e i = record { is = ap (λ (k : ℕ). 45 ∷ decimal k) (sym i) ∙ ap (λ (s : List ℕ). 45 ∷ s) (sym (append-nil (decimal n))) }
 
-pub from_zero : (z : ℤ) → pos 0 ≤ℤ z → z ≡ pos (nat_abs z)
-from_zero (pos n) h = refl
-from_zero (negsuc n) h = absurd h.le
+pub plus_digits : {n : ℕ} (z : ℤ) → lt_z z (pos 0) ≡ false → n ≡ nat_abs z → Parts (decimal_ℤ z) (decimal n ∷ [])
+unfolding decimal_ℤ
+plus_digits {n} (pos m) e i = record { is = ap decimal (sym i) ∙ sym (append-nil (decimal n)) }
+plus_digits (negsuc m) e i = cc
 
-pub size_fits : (z : ℤ) → SFits w32 z → nat_abs z < 2 ^ 32
+size_fits : (z : ℤ) → SFits w32 z → nat_abs z < 2 ^ 32
 size_fits z f = omega (arith, of_abs z, of_sfits w32 z f)
 
-pub minus-digits : {n : ℕ} (z : ℤ) → z <ℤ pos 0 → n ≡ nat_abs z → decimal_ℤ z ≡ 45 ∷ decimal n
-unfolding decimal_ℤ
-minus-digits (pos m) h e = absurd (omega (arith, of_lt (pos m) (pos 0) h))
-minus-digits (negsuc m) h e = ap (λ (n : ℕ). 45 ∷ decimal n) (sym e)
-
-pub plus_digits : {n : ℕ} (z : ℤ) → pos 0 ≤ℤ z → n ≡ nat_abs z → decimal_ℤ z ≡ decimal n
-unfolding decimal_ℤ
-plus_digits (pos m) h e = ap decimal (sym e)
-plus_digits (negsuc m) h e = absurd h.le
-
-pub put-minus : {s t : List ℕ} {at : ℕ} {x y : List ℕ} {next : ℕ} → s ≡ 45 ∷ t → at + length s ≤ length x → Put t (at + 1) (set x at 45) y next → Put s at x y next
-put-minus {at = at} {x = x} e h p =
-    let l = ap length e in
-    put_same (sym e) (then_put (omega arith) (put_byte x at 45 (omega arith)) p)
-
-pub eleven_bytes : (z : ℤ) → SFits w32 z → length (decimal_ℤ z) ≤ 11
+eleven_bytes : (z : ℤ) → SFits w32 z → length (decimal_ℤ z) ≤ 11
 unfolding decimal_ℤ
 eleven_bytes (pos n) f = omega (arith, ten_digits n (size_fits (pos n) f))
 eleven_bytes (negsuc n) f = omega (arith, ten_digits (suc n) (size_fits (negsuc n) f))
 
--- ---- bytes copied one by one
-
-pub put_all : (row s : List ℕ) (at i : ℕ) → length s ≤ i → i ≤ length s → Put s at row (paste row at s i) (at + i)
-put_all row s at i h k =
-    let e : i ≡ length s = omega arith in
-    record { is = ap (paste row at s) e ∙ ap (λ (l : List ℕ). take at row ++ l ++ drop (at + length s) row) (take-length s); place = ap (λ (n : ℕ). at + n) e }
-
-pub paste_more : (row s : List ℕ) (at i : ℕ) → i < length s → at + length s ≤ length row → set (paste row at s i) (at + i) (get_or s i 0) ≡ paste row at s (i + 1)
-paste_more row s at i h k = paste-suc row at s i 0 (omega arith) h ∙ ap (paste row at s) (sym (add-one i))
-
 -- ---- a line's parts: each number with what stands after it
+
+abbrev pub comma_after : List ℕ → List ℕ
+comma_after f = f ++ comma ∷ []
 
 abbrev pub event_parts : ℕ → ℕ → List (List ℕ)
 event_parts k p = comma_after (decimal k) ∷ break_after (decimal p) ∷ []
@@ -191,21 +149,26 @@ arc_parts k a =
     comma_after (decimal k) ∷ comma_after (decimal a.tail) ∷ comma_after (decimal a.head) ∷ comma_after (decimal_ℤ a.lower) ∷ comma_after (decimal_ℤ a.upper)
     ∷ break_after (decimal a.weight) ∷ []
 
-pub event_line : (k p : ℕ) → run (event_parts k p) ≡ record_line event_layout k p
+pub event_line : (k p : ℕ) → Parts (record_line event_layout k p) (event_parts k p)
 unfolding joined event_fields
-event_line k p = simp (append_assoc, append-nil)
+event_line k p = record { is = simp (append_assoc, append-nil) }
 
-pub arc-line : (k : ℕ) (a : Arc) → run (arc_parts k a) ≡ record_line arc_layout k a
+-- the two signed numbers as they are passed
+pub arc_line : (k : ℕ) (a : Arc) {l u : ℤ} → l ≡ a.lower → u ≡ a.upper → Parts (record_line arc_layout k a) (arc_parts k (arc a.tail a.head l u a.weight))
 unfolding joined arc_fields
-arc-line k a = simp (append_assoc, append-nil)
+arc_line k a e f =
+    let line : record_line arc_layout k a ≡ run (arc_parts k a) = simp (append_assoc, append-nil) in
+    record { is = line ∙ (λ i. run (arc_parts k (arc a.tail a.head (sym e i) (sym f i) a.weight))) }
 
-pub event_line-length : (k p : ℕ) → length (record_line event_layout k p) ≡ length (decimal k) + length (decimal p) + 3
-event_line-length k p = sym (ap length (event_line k p)) ∙ simp length-append (omega arith)
+-- and how long it may be
+pub event_line_short : (k p : ℕ) → k < 2 ^ 32 → p < 2 ^ 32 → length (record_line event_layout k p) ≤ longest_event
+event_line_short k p h i = simp ((event_line k p).is, length-append) (omega (arith, ten_digits k h, ten_digits p i))
 
-pub arc-line-length : (k : ℕ) (a : Arc)
-    → length (record_line arc_layout k a)
-    ≡ length (decimal k) + length (decimal a.tail) + length (decimal a.head) + length (decimal_ℤ a.lower) + length (decimal_ℤ a.upper) + length (decimal a.weight) + 7
-arc-line-length k a = sym (ap length (arc-line k a)) ∙ simp length-append (omega arith)
+pub arc_line_short : (k : ℕ) (a : Arc) → k < 2 ^ 32 → a.tail < 2 ^ 32 → a.head < 2 ^ 32 → SFits w32 a.lower → SFits w32 a.upper → a.weight < 2 ^ 32
+    → length (record_line arc_layout k a) ≤ longest_arc
+arc_line_short k a h t i l u w =
+    simp ((arc_line k a refl refl).is, length-append)
+    (omega (arith, ten_digits k h, ten_digits a.tail t, ten_digits a.head i, eleven_bytes a.lower l, eleven_bytes a.upper u, ten_digits a.weight w))
 
 -- ---- the lines of a text, record by record
 
@@ -230,72 +193,62 @@ module _ {R : Type 0} (L : Layout R) (rs : List R) where
       ap (λ (ls : List (List ℕ)). broken (L.header ∷ ls)) (lines-append f 0 xs ys) ∙ broken-append (L.header ∷ record_lines f 0 xs) (record_lines f (0 + length xs) ys)
       ∙ ap (λ (j : ℕ). broken (L.header ∷ record_lines f 0 xs) ++ broken (record_lines f j ys)) z
 
-  -- the first k records are printed, and r is the next
-  pub record Line (k : ℕ) (r : R) : Type 0 where
-    pub is : printed L (take (k + 1) rs) ≡ printed L (take k rs) ++ record_line L k r
+  -- with no record, the header alone
+  header_only : printed L [] ≡ break_after L.header
+  unfolding printed record_lines broken
+  header_only = refl
 
-  pub line : (k : ℕ) (d : R) → k < length rs → Line k (get_or rs k d)
+  -- one record more, one line more
+  next_line : (k : ℕ) (d : R) → k < length rs → printed L (take (k + 1) rs) ≡ printed L (take k rs) ++ record_line L k (get_or rs k d)
   unfolding record_lines broken
-  line k d h = record {
-    is = ap (λ (xs : List R). printed L xs) (ap (λ (n : ℕ). take n rs) (add-one k) ∙ take-suc rs k d h)
-        ∙ split k (take k rs) (get_or rs k d ∷ []) (length-take-le k rs (omega arith));
-  }
+  next_line k d h =
+      ap (λ (xs : List R). printed L xs) (ap (λ (n : ℕ). take n rs) (add-one k) ∙ take-suc rs k d h)
+      ∙ split k (take k rs) (get_or rs k d ∷ []) (length-take-le k rs (omega arith))
 
+  -- the first lines are no longer than all
   part : (k : ℕ) → length (printed L (take k rs)) ≤ length (printed L rs)
   part k =
       let e = ap (λ (xs : List R). length (printed L xs)) (sym (take-append-drop k rs)) ∙ ap length (split (length (take k rs)) (take k rs) (drop k rs) refl) in
       omega (arith, simp length-append at e)
 
-  whole : (k : ℕ) → length rs ≤ k → printed L (take k rs) ≡ printed L rs
-  whole k h = ap (λ (xs : List R). printed L xs) (take_all k rs h)
+  all_lines : (k : ℕ) → length rs ≤ k → printed L (take k rs) ≡ printed L rs
+  all_lines k h = ap (λ (xs : List R). printed L xs) (take_all k rs h)
 
--- ---- a loop that counts or writes them: the header, one line more, and the end
+-- ---- a loop that puts the lines: the header, one line more, and the end
 
-module _ {R : Type 0} {L : Layout R} {rs : List R} {k : ℕ} {r : R} (l : Line L rs k r) where
-  pub count_more : length (printed L (take (k + 1) rs)) ≡ length (printed L (take k rs)) + length (record_line L k r)
-  count_more = ap length l.is ∙ length-append (printed L (take k rs)) (record_line L k r)
+module _ {R : Type 0} (L : Layout R) (rs : List R) (w : ℕ) {X : Type 0} (took : List ℕ → X → X → Type 0) where
+  -- the header and the lines of the first k records went in, each of at most w bytes
+  pub record SoFar (k : ℕ) (x y : X) : Type 0 where
+    pub lines : took (printed L (take k rs)) x y
+    pub short : length (printed L (take k rs)) ≤ w * (k + 1)
 
-  pub line_fits : {x y : List ℕ} {p : ℕ} → length (printed L rs) ≤ length x → Put (printed L (take k rs)) 0 x y p → p + length (record_line L k r) ≤ length y
-  line_fits h a = omega (arith, h, a.place, count_more, part L rs (k + 1), kept_length (omega (arith, h, part L rs k)) a)
+module _ {R : Type 0} (L : Layout R) (rs : List R) (w : ℕ) {X : Type 0} {room : ℕ → X → Type 0} {took : List ℕ → X → X → Type 0} (laws : SinkLaws room took) {x : X}
+    (h : room (length (printed L rs)) x) where
+  pub header_fits : room (length (break_after L.header)) x
+  header_fits = laws.fewer (length (break_after L.header)) (omega (arith, part L rs 0, ap length (header_only L rs))) h
 
-  pub put-line : {x y z : List ℕ} {p q : ℕ} → length (printed L rs) ≤ length x → Put (printed L (take k rs)) 0 x y p → Put (record_line L k r) p y z q
-      → Put (printed L (take (k + 1) rs)) 0 x z q
-  put-line h a b = put_same (sym l.is) (then_put (omega (arith, h, count_more, part L rs (k + 1))) a b)
+  pub begun : {y : X} → length (break_after L.header) ≤ w → took (break_after L.header) x y → SoFar L rs w took 0 x y
+  begun i p = record { lines = took_same laws (header_only L rs) p; short = omega (arith, i, ap length (header_only L rs)) }
 
-module _ {R : Type 0} (L : Layout R) (rs : List R) where
-  pub count_whole : (k : ℕ) → length rs ≤ k → length (printed L (take k rs)) ≡ length (printed L rs)
-  count_whole k h = ap length (whole L rs k h)
+  pub ended : {y : X} (k : ℕ) → length rs ≤ k → SoFar L rs w took k x y → took (printed L rs) x y × (length (printed L rs) ≤ w * (k + 1))
+  ended k i p = (took_same laws (sym (all_lines L rs k i)) p.lines, omega (arith, p.short, ap length (all_lines L rs k i)))
 
-  pub count_none : length (printed L []) ≡ length (break_after L.header)
-  unfolding printed record_lines broken
-  count_none = refl
+  -- the lines before record k, and its line
+  module _ (k : ℕ) (d : R) {r : R} (i : k < length rs) (e : get_or rs k d ≡ r) where
+    next : Parts (printed L (take (k + 1) rs)) (printed L (take k rs) ∷ record_line L k r ∷ [])
+    next = record {
+      is = next_line L rs k d i ∙ ap (λ (q : R). printed L (take k rs) ++ record_line L k q) e
+          ∙ ap (λ (s : List ℕ). printed L (take k rs) ++ s) (sym (append-nil (record_line L k r)));
+    }
 
-  pub header_fits : length (break_after L.header) ≤ length (printed L rs)
-  unfolding printed record_lines broken
-  header_fits = part L rs 0
+    next_room : Room room (printed L (take k rs) ∷ record_line L k r ∷ []) x
+    next_room = room_for laws next (laws.fewer (length (printed L (take (k + 1) rs))) (part L rs (k + 1)) h)
 
-  pub header_kept : {x y : List ℕ} {p : ℕ} → length (printed L rs) ≤ length x → Put (break_after L.header) 0 x y p → length (printed L rs) ≤ length y
-  header_kept h a = omega (arith, h, kept_length (omega (arith, h, header_fits)) a)
+    pub line_fits : {y : X} → SoFar L rs w took k x y → room (length (record_line L k r)) y
+    line_fits p = room_first laws (room_rest laws next_room p.lines)
 
-  pub put_header : {x y : List ℕ} {p : ℕ} → length (printed L rs) ≤ length x → Put (break_after L.header) 0 x y p → Put (printed L []) 0 y y p
-  unfolding printed record_lines broken
-  put_header h a = put_again (omega (arith, h, header_fits)) a
-
-  pub put_whole : (k : ℕ) {x y z : List ℕ} {p q : ℕ} → length rs ≤ k → length (printed L rs) ≤ length x → Put (break_after L.header) 0 x y p
-      → Put (printed L (take k rs)) 0 y z q → Put (printed L rs) 0 x z q
-  put_whole k h i a b = put_over header_fits (omega (arith, i)) a (put_same (whole L rs k h) b)
-
--- ---- the arcs of five rows
-
--- an arc as a call takes it, its bounds as bits
-abbrev pub passed : Arc → Arc
-passed a = arc a.tail a.head (to_z w32 (of_z w32 a.lower)) (to_z w32 (of_z w32 a.upper)) a.weight
-
-pub passed_is : (a : Arc) → SFits w32 a.lower → SFits w32 a.upper → passed a ≡ a
-passed_is a f g i = arc a.tail a.head ((of f).is i) ((of g).is i) a.weight
-
-pub arc_next : (t h : List ℕ) (l u : List ℤ) (w : List ℕ) (k : ℕ) → k < length t → SFits w32 (at_ℤ l k) → SFits w32 (at_ℤ u k)
-    → Line arc_layout (arcs_of t h l u w) k (passed (arc_at t h l u w k))
-arc_next t h l u w k i f g =
-    let a : Arc = arc_at t h l u w k in
-    subst (Line arc_layout (arcs_of t h l u w) k) (arcs-at t h l u w k a i ∙ sym (passed_is a f g)) (line arc_layout (arcs_of t h l u w) k a (omega (arith, arcs-length t h l u w)))
+    pub line_put : {y z : X} → SoFar L rs w took k x y → took (record_line L k r) y z → length (record_line L k r) ≤ w → SoFar L rs w took (k + 1) x z
+    line_put p q j = record {
+      lines = whole laws next (first laws next_room p.lines (last laws q));
+      short = omega (arith, ap length next.is, length-append (printed L (take k rs)) (record_line L k r ++ []), length-append (record_line L k r) [], p.short, j);
+    }

@@ -2,7 +2,7 @@
 use mathlib.Core.Path.{◌≡◌, refl, sym, ap, ◌∙◌, subst}
 use mathlib.Core.Bool.{Bool, true, false, cond, ◌&&◌}
 use mathlib.Core.List.{List, [], ◌∷◌}
-use mathlib.Core.Option.{Option, none, some}
+use Rattle.std.specs.Prelude.{Option, None, Some}
 use Prim.Native.Nat.{ℕ, suc, ◌+◌, ◌^◌, ◌≤◌, ◌<◌}
 use native.Mathlib.Omega.{arith}
 use lib.Dec.{T, ltb}
@@ -30,8 +30,8 @@ record Sound {R : Type 0} (L : Layout R) : Type 1 where
   few : L.most ≤ 256
   head : Each AboveBreak L.header
   above : (r : R) → Each (Each Above) (L.fields_of r)
-  back : (k : ℕ) (r : R) → k < 2 ^ 32 → Held r → L.record_of k (decimal k ∷ L.fields_of r) ≡ some r
-  held : (k : ℕ) (fs : List (List ℕ)) (r : R) → L.record_of k fs ≡ some r → Held r
+  back : (k : ℕ) (r : R) → k < 2 ^ 32 → Held r → L.record_of k (decimal k ∷ L.fields_of r) ≡ Some r
+  held : (k : ℕ) (fs : List (List ℕ)) (r : R) → L.record_of k fs ≡ Some r → Held r
 
 same-same : (s : List ℕ) → same s s ≡ true
 unfolding same
@@ -75,10 +75,10 @@ module _ {R : Type 0} (L : Layout R) (S : Sound L) where
       by : (t : Bool) → ltb k L.most ≡ t → (o : Option R) → L.record_of k (fields l) ≡ o → (t' : Told R)
           → ((qs : List R) → t' ≡ rows qs → Holding (suc k) qs) → cond t (judged k o t') (bad_record k) ≡ rows rs → Holding k rs
       by false p o q t' ih h = absurd (bad_rows h)
-      by true p none q t' ih h = absurd (bad_rows h)
-      by true p (some r) q (rows qs) ih h = subst (Holding k) (rows_same h) (one_more (ltb-true k L.most p) (S.held k (fields l) r q) (ih qs refl))
-      by true p (some r) q wrong_header ih h = absurd (header_rows h)
-      by true p (some r) q (bad_record j) ih h = absurd (bad_rows h)
+      by true p None q t' ih h = absurd (bad_rows h)
+      by true p (Some r) q (rows qs) ih h = subst (Holding k) (rows_same h) (one_more (ltb-true k L.most p) (S.held k (fields l) r q) (ih qs refl))
+      by true p (Some r) q wrong_header ih h = absurd (header_rows h)
+      by true p (Some r) q (bad_record j) ih h = absurd (bad_rows h)
 
   printed_back : {rs : List R} → Each S.Held rs → L.least ≤ length rs → length rs ≤ L.most → told L (printed L rs) ≡ rows rs
   unfolding told printed headed enough
@@ -128,7 +128,7 @@ event_above : (p : ℕ) → Each (Each Above) (event_fields p)
 unfolding event_fields
 event_above p = one (decimal_above p) nil
 
-event_back : (k p : ℕ) → k < 2 ^ 32 → p < 2 ^ 32 → event_of k (decimal k ∷ event_fields p) ≡ some p
+event_back : (k p : ℕ) → k < 2 ^ 32 → p < 2 ^ 32 → event_of k (decimal k ∷ event_fields p) ≡ Some p
 unfolding event_of event_fields end
 event_back k p h i =
     numbered-same k (field plain end) (decimal k) (decimal p ∷ []) (plain-decimal k h) ∙ field_some plain end (decimal p) [] (plain-decimal p i)
@@ -137,7 +137,7 @@ arc_above : (a : Arc) → Each (Each Above) (arc_fields a)
 unfolding arc_fields
 arc_above a = one (decimal_above a.tail) (one (decimal_above a.head) (one (decimal_ℤ_above a.lower) (one (decimal_ℤ_above a.upper) (one (decimal_above a.weight) nil))))
 
-arc_back : (k : ℕ) (a : Arc) → k < 2 ^ 32 → ArcHolds a → arc_of k (decimal k ∷ arc_fields a) ≡ some a
+arc_back : (k : ℕ) (a : Arc) → k < 2 ^ 32 → ArcHolds a → arc_of k (decimal k ∷ arc_fields a) ≡ Some a
 unfolding arc_of arc_fields end
 arc_back k a h i =
     numbered-same k _ (decimal k) _ (plain-decimal k h)

@@ -3,7 +3,6 @@ use mathlib.Core.Path.{◌≡◌, refl, subst}
 use mathlib.Core.Bool.{Bool, true, false, cond}
 use mathlib.Core.List.{List, [], ◌∷◌}
 use Prim.Native.Nat.{ℕ, ◌≤◌}
-use native.Mathlib.Omega.{arith}
 use lib.Dec.{ltb}
 use lib.ListN.{length}
 use borrow.Author.Tests.{ltb-false}
@@ -14,10 +13,10 @@ pub rows_same : {R : Type 0} {rs qs : List R} → rows rs ≡ rows qs → rs ≡
 rows_same e = cc
 
 pub bad_rows : {R : Type 0} {k : ℕ} {rs : List R} → bad_record k ≡ rows rs → ⊥
-bad_rows e = let z : ◌≡◌ {A = ℕ} 0 1 = cc in omega arith
+bad_rows e = cc
 
 pub header_rows : {R : Type 0} {rs : List R} → wrong_header ≡ rows rs → ⊥
-header_rows e = let z : ◌≡◌ {A = ℕ} 0 1 = cc in omega arith
+header_rows e = cc
 
 enough_rows : {R : Type 0} (least : ℕ) (t : Told R) {rs : List R} → enough least t ≡ rows rs → (t ≡ rows rs) × (least ≤ length rs)
 unfolding enough

@@ -8,3 +8,5 @@ pub mod Cursor
 pub mod Judge
 pub mod Fill
 pub mod Put
+pub mod Sink
+pub mod ArcRows

@@ -1,6 +1,5 @@
 -- A number in a text, a byte being a number: how it is read, judged by its value alone, and how it is printed, with the fewest digits. Definitions alone.
-use Rattle.std.specs.Prelude.{Bool, cond, ◌&&◌, List, [], ◌∷◌, ◌++◌, ℕ, zero, suc, ◌+◌, ◌*◌, ◌-◌, ◌/◌, ◌%◌, ◌^◌, leb, ltb, eqb, ℤ, pos, negsuc, neg_ℤ}
-use Rattle.std.proofs.Math.Option.{Option, none, some}
+use Rattle.std.specs.Prelude.{Bool, cond, ◌&&◌, List, [], ◌∷◌, ◌++◌, ℕ, zero, suc, ◌+◌, ◌*◌, ◌-◌, ◌/◌, ◌%◌, ◌^◌, leb, ltb, eqb, ℤ, pos, negsuc, neg_ℤ, Option, Some, None}
 use Rattle.text.specs.Bytes.{minus_sign, zero_digit, nine_digit}
 
 -- ---- read: one or more decimal digits, however many
@@ -10,17 +9,17 @@ is_digit b = leb zero_digit b && leb b nine_digit
 
 -- the value of digits that follow those of value v; none where a byte is no digit
 unfoldable pub digits : ℕ → List ℕ → Option ℕ
-digits v [] = some v
-digits v (b ∷ s) = cond (is_digit b) (digits (v * 10 + (b - zero_digit)) s) none
+digits v [] = Some v
+digits v (b ∷ s) = cond (is_digit b) (digits (v * 10 + (b - zero_digit)) s) None
 
 unfoldable pub number : List ℕ → Option ℕ
-number [] = none
+number [] = None
 number (b ∷ s) = digits 0 (b ∷ s)
 
 -- a value that is too large is none
 unfoldable pub below : ℕ → Option ℕ → Option ℕ
-below m none = none
-below m (some v) = cond (ltb v m) (some v) none
+below m None = None
+below m (Some v) = cond (ltb v m) (Some v) None
 
 -- a field of an unsigned 32-bit row
 unfoldable pub plain : List ℕ → Option ℕ
@@ -28,15 +27,15 @@ plain f = below (2 ^ 32) (number f)
 
 -- with its sign
 unfoldable pub valued : (ℕ → ℤ) → Option ℕ → Option ℤ
-valued sign none = none
-valued sign (some v) = some (sign v)
+valued sign None = None
+valued sign (Some v) = Some (sign v)
 
 abbrev pub minus : ℕ → ℤ
 minus v = neg_ℤ (pos v)
 
 -- a field of a signed 32-bit row: digits, with an optional minus
 unfoldable pub signed : List ℕ → Option ℤ
-signed [] = none
+signed [] = None
 signed (b ∷ f) = cond (eqb b minus_sign) (valued minus (below (2 ^ 31 + 1) (number f))) (valued pos (below (2 ^ 31) (number (b ∷ f))))
 
 -- ---- printed

@@ -1,6 +1,6 @@
 -- For the inner functions: bytes written at a place of a row, and the lines that are written. Definitions alone.
 use Rattle.std.specs.Prelude.{◌≡◌, List, [], ◌∷◌, ◌++◌, ℕ, ◌+◌, ◌≤◌, ℤ, length, take, drop}
-use Rattle.text.specs.Bytes.{comma, cr, lf}
+use Rattle.text.specs.Bytes.{cr, lf}
 use Rattle.text.specs.Number.{decimal}
 use Rattle.text.specs.Line.{joined}
 use Rattle.text.specs.Text.{Layout}
@@ -14,10 +14,7 @@ pub record Put (s : List ℕ) (at : ℕ) (before after : List ℕ) (next : ℕ) 
   pub is : after ≡ put at s before
   pub place : next ≡ at + length s
 
--- a field with the comma after it, and the last with its line break
-abbrev pub comma_after : List ℕ → List ℕ
-comma_after f = f ++ comma ∷ []
-
+-- the last field of a line, and a header, with the line break after it
 abbrev pub break_after : List ℕ → List ℕ
 break_after f = f ++ cr ∷ lf ∷ []
 
@@ -32,3 +29,11 @@ pub record FiveRows (t h : List ℕ) (l u : List ℤ) (w : List ℕ) : Type 0 wh
   pub uppers : length u ≡ length t
   pub weights : length w ≡ length t
   pub few : length t ≤ 256
+
+-- the most bytes that a line of the events text may have
+abbrev pub longest_event : ℕ
+longest_event = 23
+
+-- and a line of the arcs text
+abbrev pub longest_arc : ℕ
+longest_arc = 69

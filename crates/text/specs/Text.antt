@@ -1,40 +1,32 @@
 -- The office's two texts: what each tells, and how its records are printed. One rule for both, over the layout. Definitions alone.
-use Rattle.std.specs.Prelude.{Bool, true, false, cond, ◌&&◌, List, [], ◌∷◌, ◌++◌, ℕ, zero, suc, ltb, eqb, ℤ, length}
-use Rattle.std.proofs.Math.Option.{Option, none, some}
-use Rattle.std.specs.Borrow.{Bor}
-use denote.Triple.Both.{Both}
+use Rattle.std.specs.Prelude.{Bool, true, false, cond, ◌&&◌, List, [], ◌∷◌, ◌++◌, ℕ, zero, suc, ltb, eqb, ℤ, length, Option, Some, None}
 use Rattle.numbers.specs.Row.{at, at_ℤ}
 use Rattle.text.specs.Bytes.{bytes}
+pub use Rattle.text.specs.declared.Arc.{Arc}
 use Rattle.text.specs.Number.{plain, signed, decimal, decimal_ℤ}
 use Rattle.text.specs.Line.{lines, fields, joined, broken}
 
 -- ---- a record: its fields in turn, each by its rule
 
 unfoldable pub and_then : {A B : Type 0} → Option A → (A → Option B) → Option B
-and_then none go = none
-and_then (some a) go = go a
+and_then None go = None
+and_then (Some a) go = go a
 
 -- the next field by its rule, then the others
 unfoldable pub field : {A B : Type 0} → (List ℕ → Option A) → (A → List (List ℕ) → Option B) → List (List ℕ) → Option B
-field rule go [] = none
+field rule go [] = None
 field rule go (f ∷ fs) = and_then (rule f) (λ a. go a fs)
 
 -- no field is left
 unfoldable pub end : {B : Type 0} → B → List (List ℕ) → Option B
-end b [] = some b
-end b (f ∷ fs) = none
+end b [] = Some b
+end b (f ∷ fs) = None
 
 -- the number of the record, which is k
 unfoldable pub numbered : {B : Type 0} → ℕ → (List (List ℕ) → Option B) → List (List ℕ) → Option B
-numbered k go = field plain (λ n fs. cond (eqb n k) (go fs) none)
+numbered k go = field plain (λ n fs. cond (eqb n k) (go fs) None)
 
-pub record Arc : Type 0 where
-  pub tail : ℕ
-  pub head : ℕ
-  pub lower : ℤ
-  pub upper : ℤ
-  pub weight : ℕ
-
+-- an arc by its five numbers
 abbrev pub arc : ℕ → ℕ → ℤ → ℤ → ℕ → Arc
 arc t h l u w = record { tail = t; head = h; lower = l; upper = u; weight = w }
 
@@ -49,11 +41,6 @@ listed f (suc n) = listed f n ++ (f n ∷ [])
 
 unfoldable pub arcs_of : List ℕ → List ℕ → List ℤ → List ℤ → List ℕ → List Arc
 arcs_of t h l u w = listed (arc_at t h l u w) (length t)
-
--- of five parameters of a call, as they are lent
-abbrev pub arcs_at : {A B C D E : Type 0} → Both (Bor (List ℕ)) A → Both (Bor (List ℕ)) B → Both (Bor (List ℤ)) C → Both (Bor (List ℤ)) D
-    → Both (Bor (List ℕ)) E → List Arc
-arcs_at t h l u w = arcs_of t.entry.now h.entry.now l.entry.now u.entry.now w.entry.now
 
 -- event k's period, and arc k, by their fields
 unfoldable pub event_of : ℕ → List (List ℕ) → Option ℕ
@@ -99,8 +86,8 @@ with r (bad_record k) = bad_record k
 
 -- record k, before what is told of the rest
 unfoldable pub judged : {R : Type 0} → ℕ → Option R → Told R → Told R
-judged k none rest = bad_record k
-judged k (some r) rest = with r rest
+judged k None rest = bad_record k
+judged k (Some r) rest = with r rest
 
 -- the lines from record k on; a record too many is bad, whatever it holds
 unfoldable pub records : {R : Type 0} → (ℕ → List (List ℕ) → Option R) → ℕ → ℕ → List (List ℕ) → Told R

@@ -1,69 +1,58 @@
-// The reader hands out one record after another.
-ghost use Rattle.std.specs.Prelude.{◌≡◌, ◌<◌, length, drop};
-ghost use Rattle.text.specs.Line.{is_break};
-ghost use Rattle.text.specs.Cursor.{Handed, Begun};
+// A text is read line by line.
+ghost use Rattle.std.specs.Prelude.{◌≡◌, ◌<◌, ◌∷◌, length};
+ghost use Rattle.std.specs.Iterator.{YieldsFirstRef, item_count};
+ghost use Rattle.text.specs.Line.{lines};
+ghost use Rattle.text.specs.Cursor.{lines_left, after_first};
 
-use crate::{Reader, Record};
-
-// Does CR LF stand at a place?
-fn breaks(text: &[u8], at: usize) -> bool
-    requires { at < length text.now }
-    ensures { result ≡ is_break (drop at text.now) }
+// The first line of a text, without its line break, and what follows that.
+fn split_line(text: &[u8]) -> (&[u8], &[u8])
+    requires { 0 < length text.now }
+    ensures { lines text.now ≡ result.0.now ∷ lines result.1.now }
 {
-    if text[at] != 13 {
-        return false;
+    match text.windows(2).position(|pair| matches!(pair, b"\r\n")) {
+        Some(end) => (&text[..end], &text[end + 2..]),
+        None => (text, &[]),
     }
-    let next = at + 1;
-    if next == text.len() {
-        return false;
-    }
-    text[next] == 10
 }
 
-// The record at a place of the text.
-fn record_at(text: &[u8], at: usize) -> Record
-    ensures { Handed text.now at result }
-{
-    if text.len() <= at {
-        return Record::End;
+// The lines of a text that are still to be handed out.
+#[derive(Drop)]
+pub struct Lines<'a> {
+    rest: &'a [u8],
+}
+
+impl<'a> Lines<'a> {
+    // All lines of a text.
+    pub fn new(text: &'a [u8]) -> Lines<'a>
+        ensures { lines_left result ≡ lines text.now }
+    {
+        Lines { rest: text }
     }
-    let mut i = at;
-    while i < text.len() {
-        if breaks(text, i) {
-            return Record::Line(i, i + 2);
+
+    // The lines after the first, which is the header.
+    pub fn after_header(text: &'a [u8]) -> Lines<'a>
+        ensures { lines_left result ≡ after_first (lines text.now) }
+    {
+        let mut lines = Lines::new(text);
+        lines.next();
+        lines
+    }
+}
+
+// Each line ends in CR LF; the last line break may be absent.
+impl<'a> Iterator for Lines<'a> {
+    type Item = &'a [u8];
+
+    ghost next_gives = { YieldsFirstRef lines_left };
+
+    ghost remaining = { item_count lines_left };
+
+    fn next(&mut self) -> Option<&'a [u8]> {
+        if self.rest.is_empty() {
+            return None;
         }
-        i += 1;
+        let (line, rest) = split_line(self.rest);
+        self.rest = rest;
+        Some(line)
     }
-    Record::Line(i, i)
-}
-
-// A reader at a place of the text.
-fn reader_at<'a>(text: &'a [u8], at: usize) -> Reader<'a>
-    ensures { (result.text ≡ text.entry) × (result.at ≡ at) }
-{
-    Reader { text, at }
-}
-
-// The record at the reader's place.
-fn next<'a>(r: Reader<'a>) -> Record
-    ensures { Handed r.entry.text.now r.entry.at result }
-{
-    record_at(r.text, r.at)
-}
-
-// The record that a reader at a place hands out.
-pub fn read_from(text: &[u8], at: usize) -> Record
-    ensures { Handed text.now at result }
-{
-    next(reader_at(text, at))
-}
-
-// Where the records begin, after the header.
-pub fn after_header(text: &[u8]) -> usize
-    ensures { Begun text.now result }
-{
-    let Record::Line(end, after) = read_from(text, 0) else {
-        return 0;
-    };
-    after
 }

@@ -1,68 +1,49 @@
 // A field's number, judged by its value.
-ghost use Rattle.std.specs.Prelude.{◌≡◌, ◌≤◌, ◌^◌, pos, neg_ℤ};
+ghost use Rattle.std.specs.Prelude.{◌≡◌, List, ℕ, Option};
 ghost use Rattle.text.specs.Number.{plain, signed};
-ghost use Rattle.text.specs.Cursor.{number_of, signed_of};
 
-use crate::{Number, Signed};
+// A number that is read from a field, by the rule of its row.
+pub trait Field: Drop {
+    ghost rule: { List ℕ → Option Self };
 
-// Digits of any length; a value too large is bad as soon as it is seen.
-#[tactic(auto, using(crate::proofs::Scans::reading_more, crate::proofs::Scans::reading_large))]
-pub fn plain_number(field: &[u8]) -> Number
-    ensures { result ≡ number_of (plain field.now) }
-{
-    if field.len() == 0 {
-        return Number::Bad;
-    }
-    let mut value: u64 = 0;
-    let mut i = 0;
-    while i < field.len() {
-        let b = field[i];
-        if b < 48 {
-            return Number::Bad;
-        }
-        if 57 < b {
-            return Number::Bad;
-        }
-        value = value * 10 + ((b - 48) as u64);
-        if 4294967296 <= value {
-            return Number::Bad;
-        }
-        i += 1;
-    }
-    Number::Value(value as u32)
+    // The number, if the field is one.
+    fn parse(field: &[u8]) -> Option<Self>
+        ensures { result ≡ rule field.now };
 }
 
-// The number below zero of that size.
-fn negative(size: u32) -> i32
-    requires { size ≤ 2 ^ 31 }
-    ensures { result ≡ neg_ℤ (pos size) }
-{
-    let wide = size as i64;
-    (0 - wide) as i32
+// Digits of any length; a value too large is bad as soon as it is seen.
+impl Field for u32 {
+    ghost rule = { plain };
+
+    fn parse(field: &[u8]) -> Option<u32> {
+        if field.is_empty() {
+            return None;
+        }
+        let mut value: u32 = 0;
+        for b in field {
+            if !(b'0'..=b'9').contains(b) {
+                return None;
+            }
+            value = value.checked_mul(10)?.checked_add(u32::from(b - b'0'))?;
+        }
+        Some(value)
+    }
 }
 
 // Digits with an optional minus.
-pub fn signed_number(field: &[u8]) -> Signed
-    ensures { result ≡ signed_of (signed field.now) }
-{
-    if field.len() == 0 {
-        return Signed::Bad;
-    }
-    if field[0] == 45 {
-        let Number::Value(size) = plain_number(&field[1..]) else {
-            return Signed::Bad;
-        };
-        if 2147483648 < size {
-            return Signed::Bad;
+impl Field for i32 {
+    ghost rule = { signed };
+
+    fn parse(field: &[u8]) -> Option<i32> {
+        match field {
+            [b'-', digits @ ..] => {
+                let size = u32::parse(digits)?;
+                0i32.checked_sub_unsigned(size)
+            }
+            _ => {
+                let size = u32::parse(field)?;
+                i32::try_from(size).ok()
+            }
         }
-        Signed::Value(negative(size))
-    } else {
-        let Number::Value(size) = plain_number(field) else {
-            return Signed::Bad;
-        };
-        if 2147483648 <= size {
-            return Signed::Bad;
-        }
-        Signed::Value(size as i32)
     }
 }

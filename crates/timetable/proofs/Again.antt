@@ -12,14 +12,15 @@ use Rattle.network.specs.Network.{Network, net}
 use Rattle.network.specs.Refusals.{answer, filled, after, filled_as}
 use Rattle.network.specs.Table.{outside, uneven}
 use Rattle.network.proofs.Refusing.{after-written, filled_some, filled_code}
-use Rattle.text.specs.Text.{Arc, event_layout, arc_layout, rows, told, printed}
+use Rattle.text.specs.declared.Arc.{Arc}
+use Rattle.text.specs.Text.{event_layout, arc_layout, rows, told, printed}
 use Rattle.text.specs.Fill.{rows_of, onto, tails_of, heads_of, lowers_of, uppers_of, weights_of}
 use Rattle.text.proofs.Rows.{arcs_back}
 use Rattle.text.proofs.RoundTrip.{events_again, arcs_again, events_count, arcs_count}
 use Rattle.timetable.specs.ReadText.{cramped_in, read_of, periods_in, arcs_in, Read}
 use Rattle.timetable.specs.PrintText.{events_text, arcs_text, print_of, Printed}
 use Rattle.timetable.specs.Demands.{cut, ReadsSame}
-use Rattle.timetable.proofs.PrintTexts.{outside_in, uneven_in, print_0}
+use Rattle.timetable.proofs.PrintTexts.{outside_in, uneven_in, print_clear}
 use Rattle.timetable.proofs.ReadTexts.{Accepts, accepts_read, read_accepts}
 
 -- the network of periods and arcs
@@ -106,7 +107,7 @@ prints_again {E} {A} p z E₀ A₀ h k =
     let t = read_told p z in
     let c = read_cut p z in
     let n = events_count E t.events in
-    sym (print_0 _ E₀ A₀ (ap outside_in c ∙ events_few (periods_in E) (arcs_in A) n.0 n.1) (ap uneven_in c ∙ columns_even (periods_in E) (arcs_in A) (arcs_count A t.arcs)) h k)
+    sym (print_clear _ E₀ A₀ (ap outside_in c ∙ events_few (periods_in E) (arcs_in A) n.0 n.1) (ap uneven_in c ∙ columns_even (periods_in E) (arcs_in A) (arcs_count A t.arcs)) h k)
 
 -- texts that tell the same are read to the same answer and the same rows
 module _ {E A E₂ A₂ : List ℕ} {N N₁ M M₁ : Network} {r q : Filled} (p : Read E A N N₁ r) (z : r.code ≡ 0) (b : Read E₂ A₂ M M₁ q) (room : cramped_in M ≡ false)

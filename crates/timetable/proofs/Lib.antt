@@ -1,4 +1,5 @@
 -- The ways out of the public calls, that each answer is the only one, what check accepts, how small a cost is, that texts read back, and demands 1 to 3.
+pub mod Judging
 pub mod Checks
 pub mod Measures
 pub mod PrintTexts

@@ -8,7 +8,6 @@ use borrow.Author.Tests.{lt-ltb, le-ltb}
 use lib.Dec.{ltb}
 use lib.ListN.{length}
 use Rattle.network.specs.declared.Answer.{Answer}
-use Rattle.network.specs.declared.Filled.{Filled}
 use Rattle.network.specs.Network.{Network, events, arcs}
 use Rattle.network.specs.Refusals.{answer, once, answer_of, filled, filled_as}
 use Rattle.network.specs.Table.{outside, uneven}
@@ -41,45 +40,19 @@ module _ (N : Network) (E A : List ℕ) where
   unfolding print_of print_refusals short
   lines = λ j. answer_of (sym (line_1 N (arcs N)) j ∷ sym (line_3 N (arcs N)) j ∷ once 9 short ∷ []) 0
 
-  pub print_1 : outside_in N ≡ true → answer 1 0 0 ≡ print_of N E A
-  print_1 e = refuses _ 0 none none (once_refused 1 e) (omega arith) ∙ lines
-
-  module _ (few : outside_in N ≡ false) where
-    pub print_3 : uneven_in N ≡ true → answer 3 0 0 ≡ print_of N E A
-    print_3 e = refuses _ 0 none (more (once_clear 1 few) none) (once_refused 3 e) (omega arith) ∙ lines
-
-    module _ (even : uneven_in N ≡ false) where
-      nine : short ≡ true → answer 9 0 0 ≡ print_of N E A
-      nine e = refuses _ 0 none (more (once_clear 1 few) (more (once_clear 3 even) none)) (once_refused 9 e) (omega arith) ∙ lines
-
-      pub print_9_events : length E < length (events_text N) → answer 9 0 0 ≡ print_of N E A
-      unfolding short
-      print_9_events h = nine (ap (λ (b : Bool). b || ltb (length A) (length (arcs_text N))) (lt-ltb _ _ h))
-
-      module _ (room : length (events_text N) ≤ length E) where
-        by_arcs : short ≡ ltb (length A) (length (arcs_text N))
-        unfolding short
-        by_arcs = ap (λ (b : Bool). b || ltb (length A) (length (arcs_text N))) (le-ltb _ _ room)
-
-        pub print_9_arcs : length A < length (arcs_text N) → answer 9 0 0 ≡ print_of N E A
-        print_9_arcs h = nine (by_arcs ∙ lt-ltb _ _ h)
-
-        pub print_0 : length (arcs_text N) ≤ length A → answer 0 0 0 ≡ print_of N E A
-        print_0 h = succeeds 0 none (more (once_clear 1 few) (more (once_clear 3 even) (more (once_clear 9 (by_arcs ∙ le-ltb _ _ h)) none))) ∙ lines
-
   -- ---- the answer and the rows together
 
-  pub print_not : {r : Filled} {c : ℕ} → 0 < c → r ≡ filled c 0 0 0 → answer c 0 0 ≡ print_of N E A → Printed N E A E A r
-  print_not {r} {c} h f e =
+  print_not : {c : ℕ} → 0 < c → answer c 0 0 ≡ print_of N E A → Printed N E A E A (filled c 0 0 0)
+  print_not {c} h e =
       let n : c ≡ 0 → ⊥ = λ z. omega arith in
       let k : (print_of N E A).code ≡ 0 → ⊥ = λ z. n (ap (λ (o : Answer). o.code) e ∙ z) in
       record {
-        answer = f ∙ sym (filled_none (answer c 0 0) _ _ n) ∙ ap (λ (o : Answer). filled_as o (length (events_text N)) (length (arcs_text N))) e;
+        answer = sym (filled_none (answer c 0 0) _ _ n) ∙ ap (λ (o : Answer). filled_as o (length (events_text N)) (length (arcs_text N))) e;
         events = sym (after_kept (print_of N E A) _ _ k);
         arcs = sym (after_kept (print_of N E A) _ _ k);
       }
 
-  pub print_both : {E' A' : List ℕ} {n m : ℕ} → answer 0 0 0 ≡ print_of N E A → Put (events_text N) 0 E E' n → Put (arcs_text N) 0 A A' m
+  print_both : {E' A' : List ℕ} {n m : ℕ} → answer 0 0 0 ≡ print_of N E A → Put (events_text N) 0 E E' n → Put (arcs_text N) 0 A A' m
       → Printed N E A E' A' (filled 0 0 n m)
   print_both e p q =
       let z : (print_of N E A).code ≡ 0 = ap (λ (o : Answer). o.code) (sym e) in
@@ -90,3 +63,36 @@ module _ (N : Network) (E A : List ℕ) where
         events = x.0 ∙ sym (after-written (print_of N E A) _ _ z);
         arcs = y.0 ∙ sym (after-written (print_of N E A) _ _ z);
       }
+
+  -- ---- one law for each way out
+
+  pub print_1 : outside_in N ≡ true → Printed N E A E A (filled 1 0 0 0)
+  print_1 e = print_not (omega arith) (refuses _ 0 none none (once_refused 1 e) (omega arith) ∙ lines)
+
+  module _ (few : outside_in N ≡ false) where
+    pub print_3 : uneven_in N ≡ true → Printed N E A E A (filled 3 0 0 0)
+    print_3 e = print_not (omega arith) (refuses _ 0 none (more (once_clear 1 few) none) (once_refused 3 e) (omega arith) ∙ lines)
+
+    module _ (even : uneven_in N ≡ false) where
+      nine : short ≡ true → Printed N E A E A (filled 9 0 0 0)
+      nine e = print_not (omega arith) (refuses _ 0 none (more (once_clear 1 few) (more (once_clear 3 even) none)) (once_refused 9 e) (omega arith) ∙ lines)
+
+      pub print_9_events : length E < length (events_text N) → Printed N E A E A (filled 9 0 0 0)
+      unfolding short
+      print_9_events h = nine (ap (λ (b : Bool). b || ltb (length A) (length (arcs_text N))) (lt-ltb _ _ h))
+
+      module _ (room : length (events_text N) ≤ length E) where
+        by_arcs : short ≡ ltb (length A) (length (arcs_text N))
+        unfolding short
+        by_arcs = ap (λ (b : Bool). b || ltb (length A) (length (arcs_text N))) (le-ltb _ _ room)
+
+        pub print_9_arcs : length A < length (arcs_text N) → Printed N E A E A (filled 9 0 0 0)
+        print_9_arcs h = nine (by_arcs ∙ lt-ltb _ _ h)
+
+        module _ (arcs_room : length (arcs_text N) ≤ length A) where
+          pub print_clear : answer 0 0 0 ≡ print_of N E A
+          print_clear =
+              succeeds 0 none (more (once_clear 1 few) (more (once_clear 3 even) (more (once_clear 9 (by_arcs ∙ le-ltb _ _ arcs_room)) none))) ∙ lines
+
+          pub print_0 : {E' A' : List ℕ} {n m : ℕ} → Put (events_text N) 0 E E' n → Put (arcs_text N) 0 A A' m → Printed N E A E' A' (filled 0 0 n m)
+          print_0 p q = print_both print_clear p q

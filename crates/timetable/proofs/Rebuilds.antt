@@ -1,66 +1,37 @@
 -- The answers of rebuild, one law for each way out. Assumes nothing.
 use mathlib.Core.Path.{◌≡◌, refl, sym, ap, ◌∙◌, subst}
-use mathlib.Core.List.{List}
+use mathlib.Core.List.{List, ◌++◌}
 use mathlib.Core.Bool.{not}
 use Prim.Native.Nat.{ℕ, ◌≤◌, ◌<◌}
 use native.Mathlib.Omega.{arith}
 use borrow.Author.Tests.{lt-ltb, le-ltb, ltb-false, eqb-true, eq-eqb, not-false}
 use lib.IntN.{ℤ}
-use lib.ListN.{length}
+use lib.ListN.{length, take, drop}
 use lib.Dec.{ltb}
+use lib.Seq.{length-take-le, take_at}
+use Rattle.std.specs.Prelude.{Some, None, Ok, Err}
+use Rattle.std.proofs.lemmas.List.{take-append-drop}
 use Rattle.numbers.specs.Row.{at, at_ℤ}
 use Rattle.network.specs.declared.Answer.{Answer}
+use Rattle.network.specs.declared.Refused.{Refused}
 use Rattle.network.specs.Network.{Network, events, arcs, period}
 use Rattle.network.specs.PublicRule.{cost_of}
-use Rattle.network.specs.First.{First}
-use Rattle.network.specs.Refusals.{answer, once, named}
-use Rattle.network.specs.Table.{refusals_with, refusal_of}
-use Rattle.network.specs.Rows.{other, astray, written}
+use Rattle.network.specs.First.{FirstOf}
+use Rattle.network.specs.Judged.{Judged}
+use Rattle.network.specs.Refusals.{answer, answered, once, named}
+use Rattle.network.specs.Table.{refusals_with}
+use Rattle.network.specs.Rows.{other, astray}
 use Rattle.walks.specs.Times.{Anchored}
-use Rattle.walks.specs.Place.{Placed}
-use Rattle.network.proofs.Refusing.{Clear, AllClear, coded, clear, once_refused, once_clear, clear_of, stopped, refuses, succeeds}
+use Rattle.walks.specs.Place.{Given, Impossible, Placed}
+use Rattle.network.proofs.Refusing.{Clear, AllClear, coded, clear, once_refused, once_clear, clear_of, refuses, succeeds}
 use Rattle.network.proofs.Refusing.AllClear.{none, more}
 use Rattle.network.proofs.Sound.{all_clear, well_with, long_with, judged_clear}
-use Rattle.timetable.specs.Rebuild.{rebuild_refusals, rebuild_judged, graph, Sheet, Borrowed, Restored, Rebuilt}
+use Rattle.timetable.specs.Rebuild.{rebuild_refusals, rebuild_judged, graph, Sheet, Rebuilt}
 use Rattle.timetable.specs.Rebuild.Restored.{impossible, restored}
-use Rattle.timetable.specs.Rebuild.Rebuilt.{refused}
-use Rattle.timetable.proofs.Sheets.{stands}
-
-module _ (N : Network) (x : List ℤ) (times : List ℕ) where
-  pub rebuild_network : {r : Answer} → r ≡ refusal_of N (length x) → (r.code ≡ 0 → ⊥) → r ≡ rebuild_judged N x times
-  unfolding rebuild_judged
-  rebuild_network e n = stopped (refusals_with N (length x)) (rebuild_refusals N x times) 0 e n
-
-  module _ (w : AllClear (refusals_with N (length x))) where
-    pub rebuild_9 : length times < events N → answer 9 0 0 ≡ rebuild_judged N x times
-    unfolding rebuild_judged rebuild_refusals
-    rebuild_9 s = refuses _ 0 w none (once_refused 9 (lt-ltb _ _ s)) (omega arith)
-
-    module _ (l : events N ≤ length times) where
-      clear_9 : Clear (once 9 (ltb (length times) (events N)))
-      clear_9 = once_clear 9 (le-ltb (length times) (events N) l)
-
-      pub rebuild_11 : {p : ℕ} → First (other N.periods) (events N) p → p < events N → answer 11 p 0 ≡ rebuild_judged N x times
-      unfolding rebuild_judged rebuild_refusals
-      rebuild_11 f h = refuses _ 0 w (more clear_9 none) f h
-
-      module _ {v : ℕ} (f : First (other N.periods) (events N) v) (h : events N ≤ v) where
-        pub rebuild_12 : {p : ℕ} → First (astray N x) (arcs N) p → p < arcs N → answer 12 p 0 ≡ rebuild_judged N x times
-        unfolding rebuild_judged rebuild_refusals
-        rebuild_12 g k = refuses _ 0 w (more clear_9 (more (clear_of f h) none)) g k
-
-        module _ {a : ℕ} (g : First (astray N x) (arcs N) a) (k : arcs N ≤ a) where
-          pub sheet_of : Sheet N x
-          sheet_of = record {
-            well = well_with N (length x) w;
-            long = long_with N (length x) w;
-            one_period = λ u l. eqb-true (period N u) (period N 0) (not-false _ (f.before u (omega arith)));
-            within = λ b l. g.before b (omega arith);
-          }
-
-pub rebuilt_refused : {N : Network} {x : List ℤ} {times : List ℕ} {r : Answer} {c p : ℕ} → 0 < c → r ≡ answer c p 0
-    → answer c p 0 ≡ rebuild_judged N x times → Rebuilt N x times times r
-rebuilt_refused h e a = refused (λ z. omega (arith, ap (λ (q : Answer). q.code) e)) (e ∙ a) refl
+use Rattle.timetable.specs.Rebuild.Rebuilt.{refused, judged}
+use Rattle.timetable.proofs.Judging.{code_some, network_refused}
+use Rattle.timetable.proofs.ReadTexts.{onto-written}
+use Rattle.timetable.proofs.Sheets.{given, stands}
 
 -- nothing refuses exactly where the rows are a sheet and have room
 pub judged_sheet : (N : Network) (x : List ℤ) (times : List ℕ) → Sheet N x → events N ≤ length times → (rebuild_judged N x times).code ≡ 0
@@ -89,21 +60,65 @@ sheet_judged N x times z =
       within = λ a h. (clear 12 c.1).nowhere a h;
     }
 
--- ---- by what the walks found
+-- ---- one law for each way out
 
-module _ {N : Network} {x : List ℤ} {label row times : List ℕ} (b : Borrowed N x label row times) {label' row' : List ℕ} {k : ℕ}
-    (p : Placed N.tails N.heads x (period N 0) label row label' row' k) where
-  pub row_kept : length row' ≡ events N
-  row_kept = p.times_long ∙ b.row_long
+pub rebuild_network : (N : Network) (x : List ℤ) (times : List ℕ) (r : Refused) → Judged N (length x) (Err r) → Rebuilt N x times times (answered (Err r))
+unfolding rebuild_judged
+rebuild_network N x times r j = refused (code_some r.code) (network_refused N (rebuild_refusals N x times) 0 r refl j) refl
 
-  pub restored_not : {r : Answer} → k < arcs N → r ≡ answer 13 k 0 → Restored N x times times r
-  restored_not h e = impossible k h p.allowed (p.refused h) refl e
+module _ (N : Network) (x : List ℤ) (times : List ℕ) (w : AllClear (refusals_with N (length x))) where
+  pub rebuild_9 : length times < events N → Rebuilt N x times times (answer 9 0 0)
+  unfolding rebuild_judged rebuild_refusals
+  rebuild_9 s = refused (λ z. omega arith) (refuses _ 0 w none (once_refused 9 (lt-ltb _ _ s)) (omega arith)) refl
 
-  pub restored_all : {times' : List ℕ} {c : ℕ} → arcs N ≤ k → times' ≡ written (at row') (length row') times → c ≡ cost_of N row'
-      → Restored N x times times' (answer 0 0 c)
-  restored_all h e f =
-      restored row'
-      (stands b.sheet row_kept
-      (subst (λ (n : ℕ). Anchored (graph N) (at_ℤ x) (period N 0) n (arcs N) (at row')) b.row_long (p.timetable (omega (arith, p.most)))))
-      (e ∙ ap (λ (n : ℕ). written (at row') n times) row_kept)
-      (ap (answer 0 0) f)
+  module _ (l : events N ≤ length times) where
+    clear_9 : Clear (once 9 (ltb (length times) (events N)))
+    clear_9 = once_clear 9 (le-ltb (length times) (events N) l)
+
+    pub rebuild_11 : {p : ℕ} → FirstOf (other N.periods) (events N) (Some p) → Rebuilt N x times times (answer 11 p 0)
+    unfolding rebuild_judged rebuild_refusals
+    rebuild_11 f = refused (λ z. omega arith) (refuses _ 0 w (more clear_9 none) f.1 f.0) refl
+
+    module _ (f : FirstOf (other N.periods) (events N) None) where
+      pub rebuild_12 : {p : ℕ} → FirstOf (astray N x) (arcs N) (Some p) → Rebuilt N x times times (answer 12 p 0)
+      unfolding rebuild_judged rebuild_refusals
+      rebuild_12 g = refused (λ z. omega arith) (refuses _ 0 w (more clear_9 (more (clear_of f (omega arith)) none)) g.1 g.0) refl
+
+      module _ (g : FirstOf (astray N x) (arcs N) None) where
+        sheet : Sheet N x
+        sheet = record {
+          well = well_with N (length x) w;
+          long = long_with N (length x) w;
+          one_period = λ v h. eqb-true (period N v) (period N 0) (not-false _ (f.before v h));
+          within = g.before;
+        }
+
+        -- ---- by what the walks found, of the same rows and numbers
+
+        module _ {M : Network} {p n : ℕ} (e : M ≡ N) (q : p ≡ period N 0) (r : n ≡ events N) where
+          pub rebuild_given : Given M.tails M.heads x p (length (take n times))
+          rebuild_given = rw (e, q, r) (given sheet (length-take-le (events N) times l))
+
+          pub rebuild_13 : {row : List ℕ} {k : ℕ} → Placed M.tails M.heads x p (take n times) row (Err k) → Rebuilt N x times (row ++ drop n times) (answer 13 k 0)
+          rebuild_13 {row} {k} a =
+              judged (judged_sheet N x times sheet l)
+              (impossible k i.inside i.allowed i.refused (ap (λ (u : List ℕ). u ++ drop n times) a.unwritten ∙ take-append-drop n times) refl)
+            where
+              i : Impossible (graph N) (at_ℤ x) (period N 0) (arcs N) k
+              i = rw (← q, ← e) a.impossible
+
+          pub rebuild_0 : {row : List ℕ} {u : Unit {0}} {c : ℕ} → Placed M.tails M.heads x p (take n times) row (Ok u) → c ≡ cost_of N (take n (row ++ drop n times))
+              → Rebuilt N x times (row ++ drop n times) (answer 0 0 c)
+          rebuild_0 {row} a f =
+              judged (judged_sheet N x times sheet l)
+              (restored row (stands sheet long anchored) (rw (r, ← long) (onto-written row times 0 (omega (arith, long, l))))
+              (ap (answer 0 0) (f ∙ ap (cost_of N) (take_at row (drop n times) n (long ∙ sym r)))))
+            where
+              room : length (take n times) ≡ events N
+              room = rw r (length-take-le (events N) times l)
+
+              long : length row ≡ events N
+              long = a.times_long ∙ room
+
+              anchored : Anchored (graph N) (at_ℤ x) (period N 0) (events N) (arcs N) (at row)
+              anchored = rw (← room, ← q, ← e) a.timetable

@@ -59,14 +59,14 @@ module _ {N : Network} {x : List ℤ} (s : Sheet N x) where
   pub between : Between (graph N) (events N) (arcs N)
   between = record { tail = λ a h. (has.ends a h).tail_in; head = λ a h. (has.ends a h).head_in }
 
-  pub given : {label row : List ℕ} → length label ≡ events N → length row ≡ events N → Given N.tails N.heads x (period N 0) label row
-  given l r = record {
-    paired = record { labels_long = l ∙ sym r; events = omega (arith, r, has.event_count.most) };
+  pub given : {n : ℕ} → n ≡ events N → Given N.tails N.heads x (period N 0) n
+  given e = record {
+    events = omega (arith, e, has.event_count.most);
     heads_long = has.even.heads_long;
     tensions_long = s.long;
     positive = common.0;
     most = common.1;
-    ends = record { tail = λ a h. omega (arith, r, between.tail a h); head = λ a h. omega (arith, r, between.head a h) };
+    ends = record { tail = λ a h. omega (arith, e, between.tail a h); head = λ a h. omega (arith, e, between.head a h) };
   }
 
   pub stands : {t : List ℕ} → length t ≡ events N → Anchored (graph N) (at_ℤ x) (period N 0) (events N) (arcs N) (at t) → Stands N x t

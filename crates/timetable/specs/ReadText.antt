@@ -1,11 +1,13 @@
 -- What reading the office's texts answers and writes. Definitions alone.
-use Rattle.std.specs.Prelude.{◌≡◌, Bool, cond, ◌||◌, List, ℕ, length, ltb, eqb}
+use Rattle.std.specs.Prelude.{◌≡◌, Result, Ok, Err, Bool, cond, ◌||◌, List, ℕ, length, ltb, eqb}
 use Rattle.network.specs.declared.Answer.{Answer}
 use Rattle.network.specs.declared.Filled.{Filled}
 use Rattle.network.specs.Network.{Network}
 use Rattle.network.specs.Refusals.{answer, after, filled_as}
-use Rattle.text.specs.declared.Judged.{Judged}
-use Rattle.text.specs.Text.{Arc, event_layout, arc_layout, told}
+use Rattle.text.specs.declared.Fault.{Fault}
+use Rattle.text.specs.declared.Fault.TheVariants.{Header, Record}
+use Rattle.text.specs.declared.Arc.{Arc}
+use Rattle.text.specs.Text.{event_layout, arc_layout, told}
 use Rattle.text.specs.Judge.{tally}
 use Rattle.text.specs.Fill.{rows_of, onto, tails_of, heads_of, lowers_of, uppers_of, weights_of}
 
@@ -17,9 +19,11 @@ cramped periods tails heads lowers uppers weights =
 abbrev pub cramped_in : Network → Bool
 cramped_in N = cramped (length N.periods) (length N.tails) (length N.heads) (length N.lowers) (length N.uppers) (length N.weights)
 
--- the fault of a text, at its place; code 0 where the text is accepted
-abbrev pub fault_of : Judged → Answer
-fault_of j = answer j.code j.place 0
+-- the fault of text 0 or 1: code 16 at the text, or code 17 at the record; code 0 where the text is accepted
+abbrev pub fault_of : ℕ → Result ℕ Fault → Answer
+fault_of text (Ok records) = answer 0 0 0
+fault_of text (Err Header) = answer 16 text 0
+fault_of text (Err (Record k)) = answer 17 k 0
 
 -- the first of two answers that refuses
 unfoldable pub or_else : Answer → Answer → Answer
@@ -27,7 +31,7 @@ or_else r s = cond (eqb r.code 0) s r
 
 -- 9, then the events text, then the arcs text
 unfoldable pub read_of : List ℕ → List ℕ → Network → Answer
-read_of E A N = cond (cramped_in N) (answer 9 0 0) (or_else (fault_of (tally 0 (told event_layout E))) (fault_of (tally 1 (told arc_layout A))))
+read_of E A N = cond (cramped_in N) (answer 9 0 0) (or_else (fault_of 0 (tally (told event_layout E))) (fault_of 1 (tally (told arc_layout A))))
 
 -- the periods, and the arcs, that a text tells
 abbrev pub periods_in : List ℕ → List ℕ

@@ -1,5 +1,5 @@
 -- What rebuild answers and writes. Definitions alone.
-use Rattle.std.specs.Prelude.{◌≡◌, List, [], ◌∷◌, ◌++◌, false, ℕ, ◌+◌, ◌≤◌, ◌<◌, ℤ, length, ltb}
+use Rattle.std.specs.Prelude.{◌≡◌, List, [], ◌∷◌, ◌++◌, false, ℕ, ◌+◌, ◌<◌, ℤ, length, ltb}
 use Rattle.numbers.specs.Row.{at, at_ℤ}
 use Rattle.network.specs.declared.Answer.{Answer}
 use Rattle.network.specs.Network.{Network, events, arcs, period}
@@ -53,11 +53,3 @@ pub data Restored (N : Network) (x : List ℤ) (times times' : List ℕ) (r : An
 pub data Rebuilt (N : Network) (x : List ℤ) (times times' : List ℕ) (r : Answer) : Type 0 where
   refused : (r.code ≡ 0 → ⊥) → r ≡ rebuild_judged N x times → times' ≡ times → Rebuilt N x times times' r
   judged : (rebuild_judged N x times).code ≡ 0 → Restored N x times times' r → Rebuilt N x times times' r
-
--- ---- for the inner function: rows for the work, and room for the answer
-
-pub record Borrowed (N : Network) (x : List ℤ) (label row times : List ℕ) : Type 0 where
-  pub sheet : Sheet N x
-  pub label_long : length label ≡ events N
-  pub row_long : length row ≡ events N
-  pub room : events N ≤ length times

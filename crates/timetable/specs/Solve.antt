@@ -1,11 +1,11 @@
 -- What solve answers and writes. Definitions alone.
-use Rattle.std.specs.Prelude.{◌≡◌, List, [], ◌∷◌, ◌++◌, false, ◌||◌, ℕ, ◌≤◌, length, ltb}
+use Rattle.std.specs.Prelude.{◌≡◌, List, [], ◌∷◌, ◌++◌, ◌||◌, ℕ, length, ltb}
 use Rattle.network.specs.declared.Answer.{Answer}
 use Rattle.network.specs.Network.{Network, events}
 use Rattle.numbers.specs.Row.{at}
 use Rattle.network.specs.PublicRule.{cost_of, Feasible, Smallest}
 use Rattle.network.specs.Refusals.{Refusal, answer, once, answer_of}
-use Rattle.network.specs.Table.{refusals, WellFormed}
+use Rattle.network.specs.Table.{refusals}
 use Rattle.network.specs.Rows.{written, ArcRows, short_for, noted}
 
 -- after the network's own and before any search: a row to be written is too short
@@ -25,11 +25,3 @@ pub data Found (N : Network) (times : List ℕ) (rows : ArcRows) (times' : List 
 pub data Solved (N : Network) (times : List ℕ) (rows : ArcRows) (times' : List ℕ) (rows' : ArcRows) (r : Answer) : Type 0 where
   refused : (r.code ≡ 0 → ⊥) → r ≡ solve_judged N times rows → times' ≡ times → rows' ≡ rows → Solved N times rows times' rows' r
   searched : (solve_judged N times rows).code ≡ 0 → Found N times rows times' rows' r → Solved N times rows times' rows' r
-
--- ---- for the inner function: a row for the search, and room for the answer
-
-pub record Lent (N : Network) (row times : List ℕ) (rows : ArcRows) : Type 0 where
-  pub well : WellFormed N
-  pub row_long : length row ≡ events N
-  pub times_room : events N ≤ length times
-  pub rows_room : short_for N rows ≡ false

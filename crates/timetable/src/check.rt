@@ -1,40 +1,20 @@
 // Check: is a given timetable right?
-ghost use Rattle.network.specs.Network.{net_at};
+ghost use Rattle.network.specs.Refusals.{answered};
 ghost use Rattle.timetable.specs.Check.{Checked};
 
-use network::Answer;
+use network::{Code, Network, Refused};
 
-// Is this timetable right? Code 0 and its cost where every arc is met.
-pub fn check(
-    periods: &[u32],
-    tail: &[u32],
-    head: &[u32],
-    lower: &[i32],
-    upper: &[i32],
-    weight: &[u32],
-    times: &[u32],
-) -> Answer
-    ensures { Checked (net_at periods tail head lower upper weight) times.now result }
+// Is this timetable right? Its cost where every arc is met.
+pub fn check(network: &Network, times: &[u32]) -> Result<u64, Refused>
+    ensures { Checked network.now times.now (answered result) }
 {
-    let found = network::table::refusal(periods, tail, head, lower, upper, weight, tail.len());
-    if found.code != 0 {
-        return found;
+    let network = network.judge(network.arcs())?;
+    let timed = network.timed(times)?;
+    if let Some(event) = timed.first_late() {
+        return Err(Refused::at(Code::Late, event));
     }
-    if times.len() != periods.len() {
-        return network::refused(9, 0);
+    if let Some(arc) = timed.first_unmet() {
+        return Err(Refused::at(Code::Unmet, arc));
     }
-    let event = network::rule::first_late(periods, times);
-    if event < periods.len() {
-        return network::refused(14, event);
-    }
-    let arc = network::rule::first_unmet(periods, tail, head, lower, upper, weight, times);
-    if arc < tail.len() {
-        return network::refused(15, arc);
-    }
-    let cost = network::rule::cost(periods, tail, head, lower, upper, weight, times);
-    Answer {
-        code: 0,
-        place: 0,
-        cost,
-    }
+    Ok(timed.cost())
 }

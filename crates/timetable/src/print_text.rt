@@ -1,42 +1,32 @@
 // Print: a network as the office's two texts.
-ghost use Rattle.network.specs.Network.{net_at};
+ghost use Rattle.network.specs.Refusals.{counted};
 ghost use Rattle.timetable.specs.PrintText.{Printed};
 
-use network::Filled;
+use network::{Code, Counts, Network, Refused};
+use text::print::{ArcRows, arcs_length, events_length, put_arcs, put_events};
 
 // Writes the network's two texts from the beginning of each row, and says how many bytes each has. The network is not judged.
-pub fn print_text(
-    periods: &[u32],
-    tail: &[u32],
-    head: &[u32],
-    lower: &[i32],
-    upper: &[i32],
-    weight: &[u32],
-    events: &mut [u8],
-    arcs: &mut [u8],
-) -> Filled
-    ensures { Printed (net_at periods tail head lower upper weight) events.old arcs.old events.new arcs.new result }
+pub fn print_text(network: &Network, events: &mut [u8], arcs: &mut [u8]) -> Result<Counts, Refused>
+    ensures { Printed network.now events.old arcs.old events.new arcs.new (counted result) }
 {
-    if network::table::outside(1, 64, periods.len()) {
-        return network::unfilled(1, 0);
+    if network.is_miscounted() {
+        return Err(Refused::at(Code::EventCount, 0));
     }
-    let m = tail.len();
-    if network::table::uneven(m, head.len(), lower.len(), upper.len(), weight.len(), m) {
-        return network::unfilled(3, 0);
+    if network.is_uneven(network.arcs()) {
+        return Err(Refused::at(Code::ArcRows, 0));
     }
-    if events.len() < text::print::events_length(periods) {
-        return network::unfilled(9, 0);
+    let rows = ArcRows {
+        tail: network.tails,
+        head: network.heads,
+        lower: network.lowers,
+        upper: network.uppers,
+        weight: network.weights,
+    };
+    if events.len() < events_length(network.periods) || arcs.len() < arcs_length(&rows) {
+        return Err(Refused::at(Code::Room, 0));
     }
-    if arcs.len() < text::print::arcs_length(tail, head, lower, upper, weight) {
-        return network::unfilled(9, 0);
-    }
-    let first = text::print::put_events(events, periods);
-    let second = text::print::put_arcs(arcs, tail, head, lower, upper, weight);
-    Filled {
-        code: 0,
-        place: 0,
-        cost: 0,
-        events: first,
-        arcs: second,
-    }
+    Ok(Counts {
+        events: put_events(events, network.periods),
+        arcs: put_arcs(arcs, &rows),
+    })
 }

@@ -1,11 +1,21 @@
 // Read: a network from the office's two texts.
-ghost use Rattle.std.specs.Prelude.{◌≡◌};
+ghost use Rattle.std.specs.Prelude.{◌≡◌, Ok, Err, MatchResult};
 ghost use Rattle.network.specs.Network.{net};
-ghost use Rattle.timetable.specs.ReadText.{Read, cramped as cramped_of};
+ghost use Rattle.network.specs.Refusals.{answered, counted};
+ghost use Rattle.timetable.specs.ReadText.{Read, cramped as cramped_of, fault_of};
 
-use network::Filled;
+use network::{Code, Counts, MOST_ARCS, MOST_EVENTS, Refused};
+use text::Fault;
+use text::fill::{fill_arcs, fill_events};
+use text::judge::{judge_arcs, judge_events};
 
-// Is a row below the most entries that a text may have?
+// The number of the events text.
+const EVENTS: u32 = 0;
+
+// The number of the arcs text.
+const ARCS: u32 = 1;
+
+// Is a row below the most entries that a text may have? The lengths stand apart, as the rows do.
 #[tactic(auto, unfolding(crate::specs::ReadText::cramped))]
 fn cramped(
     periods: usize,
@@ -17,25 +27,33 @@ fn cramped(
 ) -> bool
     ensures { result ≡ cramped_of periods tails heads lowers uppers weights }
 {
-    if periods < 64 {
-        return true;
+    periods < MOST_EVENTS
+        || tails < MOST_ARCS
+        || heads < MOST_ARCS
+        || lowers < MOST_ARCS
+        || uppers < MOST_ARCS
+        || weights < MOST_ARCS
+}
+
+// How many records a judged text has, or its fault as a refusal: at the number of the text for its header, else at the record.
+fn accepted(judged: Result<usize, Fault>, text: u32) -> Result<usize, Refused>
+    ensures { MatchResult result (λ records. judged ≡ Ok records) (λ r. answered (Err r) ≡ fault_of text judged) }
+{
+    match judged {
+        Ok(records) => Ok(records),
+        Err(Fault::Header) => Err(Refused {
+            code: Code::Header,
+            place: text,
+        }),
+        Err(Fault::Record(record)) => Err(Refused {
+            code: Code::Record,
+            place: record,
+        }),
     }
-    if tails < 256 {
-        return true;
-    }
-    if heads < 256 {
-        return true;
-    }
-    if lowers < 256 {
-        return true;
-    }
-    if uppers < 256 {
-        return true;
-    }
-    weights < 256
 }
 
 // Fills the rows with the network that the two texts tell, and says how many events and arcs it has.
+// The six rows stay apart, as the C interface lends them.
 pub fn read_text(
     events: &[u8],
     arcs: &[u8],
@@ -45,9 +63,9 @@ pub fn read_text(
     lower: &mut [i32],
     upper: &mut [i32],
     weight: &mut [u32],
-) -> Filled
+) -> Result<Counts, Refused>
     ensures { Read events.now arcs.now (net periods.old tail.old head.old lower.old upper.old weight.old)
-        (net periods.new tail.new head.new lower.new upper.new weight.new) result }
+        (net periods.new tail.new head.new lower.new upper.new weight.new) (counted result) }
 {
     if cramped(
         periods.len(),
@@ -57,23 +75,14 @@ pub fn read_text(
         upper.len(),
         weight.len(),
     ) {
-        return network::unfilled(9, 0);
+        return Err(Refused::at(Code::Room, 0));
     }
-    let first = text::judge::judge_events(events);
-    if first.code != 0 {
-        return network::unfilled(first.code, first.place);
-    }
-    let second = text::judge::judge_arcs(arcs);
-    if second.code != 0 {
-        return network::unfilled(second.code, second.place);
-    }
-    text::fill::fill_events(events, periods);
-    text::fill::fill_arcs(arcs, tail, head, lower, upper, weight);
-    Filled {
-        code: 0,
-        place: 0,
-        cost: 0,
-        events: first.records,
-        arcs: second.records,
-    }
+    let first = accepted(judge_events(events), EVENTS)?;
+    let second = accepted(judge_arcs(arcs), ARCS)?;
+    fill_events(events, periods);
+    fill_arcs(arcs, tail, head, lower, upper, weight);
+    Ok(Counts {
+        events: first,
+        arcs: second,
+    })
 }

@@ -1,84 +1,34 @@
 // Solve: the smallest feasible timetable of a network.
-ghost use Rattle.network.specs.Network.{net_of, net_at};
-ghost use Rattle.network.specs.Rows.{arc_rows_of, arc_rows_at, arc_rows_left};
-ghost use Rattle.timetable.specs.Solve.{Solved, Found, Lent};
+ghost use Rattle.network.specs.Refusals.{answered};
+ghost use Rattle.network.specs.Rows.{arc_rows_at, arc_rows_left};
+ghost use Rattle.timetable.specs.Solve.{Solved};
 
-use network::Answer;
+use network::rule::{note_times, short};
+use network::{Code, MOST_EVENTS, Network, Refused, Timed};
 
-// The search over a row of its own: the lent rows are written only where it found a timetable.
-fn settle(
-    periods: &[u32],
-    tail: &[u32],
-    head: &[u32],
-    lower: &[i32],
-    upper: &[i32],
-    weight: &[u32],
-    row: &mut [u32],
-    times: &mut [u32],
-    tensions: &mut [i32],
-    turns: &mut [i32],
-) -> Answer
-    requires { Lent (net_of periods tail head lower upper weight) row.old times.old (arc_rows_of tensions turns) }
-    ensures { Found (net_at periods tail head lower upper weight) times.old (arc_rows_at tensions turns) times.new (arc_rows_left tensions turns) result }
-{
-    if !closure::smallest(periods, tail, head, lower, upper, weight, row) {
-        return network::refused(10, 0);
-    }
-    network::rule::note_times(&row[..], times);
-    let cost = network::rule::note_arcs(
-        periods,
-        tail,
-        head,
-        lower,
-        upper,
-        weight,
-        &row[..],
-        tensions,
-        turns,
-    );
-    Answer {
-        code: 0,
-        place: 0,
-        cost,
-    }
-}
-
-// The smallest feasible timetable with its tensions, turns and cost, or code 10 where there is none.
+// The smallest feasible timetable, its tensions, its turns and its cost, or code 10 where there is none. The lent rows are written only where there is one.
 pub fn solve(
-    periods: &[u32],
-    tail: &[u32],
-    head: &[u32],
-    lower: &[i32],
-    upper: &[i32],
-    weight: &[u32],
+    network: &Network,
     times: &mut [u32],
     tensions: &mut [i32],
     turns: &mut [i32],
-) -> Answer
-    ensures { Solved (net_at periods tail head lower upper weight) times.old (arc_rows_at tensions turns) times.new (arc_rows_left tensions turns) result }
+) -> Result<u64, Refused>
+    ensures { Solved network.now times.old (arc_rows_at tensions turns) times.new (arc_rows_left tensions turns) (answered result) }
 {
-    let found = network::table::refusal(periods, tail, head, lower, upper, weight, tail.len());
-    if found.code != 0 {
-        return found;
+    let network = network.judge(network.arcs())?;
+    let count = network.rows.events();
+    if times.len() < count || short(tensions.len(), turns.len(), network.rows.arcs()) {
+        return Err(Refused::at(Code::Room, 0));
     }
-    if times.len() < periods.len() {
-        return network::refused(9, 0);
+    let mut buffer = [0u32; MOST_EVENTS];
+    let row = &mut buffer[..count];
+    if !closure::smallest(&network, row) {
+        return Err(Refused::at(Code::Infeasible, 0));
     }
-    if network::rule::short(tensions.len(), turns.len(), tail.len()) {
-        return network::refused(9, 0);
-    }
-    let n = periods.len();
-    let mut row = [0u32; 64];
-    settle(
-        periods,
-        tail,
-        head,
-        lower,
-        upper,
-        weight,
-        &mut row[..n],
-        times,
-        tensions,
-        turns,
-    )
+    note_times(row, times);
+    let timed = Timed {
+        network,
+        times: row,
+    };
+    Ok(timed.note_arcs(tensions, turns))
 }

@@ -1,6 +1,8 @@
 -- One arc more, by its excess s: the remainder of (tail time plus tension less head time). Assumes nothing.
-use mathlib.Core.Path.{◌≡◌, ap}
+use mathlib.Core.Path.{◌≡◌, sym, ap, subst}
+use mathlib.Core.List.{List}
 use Prim.Native.Nat.{ℕ, ◌+◌, ◌-◌, ◌%◌, ◌<◌}
+use native.Mathlib.Nat.{mod-lt}
 use native.Mathlib.Omega.{arith}
 use lib.IntN.{ℤ, pos, neg_ℤ, ◌+ℤ◌, ◌-ℤ◌}
 use Rattle.numbers.specs.Remainder.{Cong, IsRemainder}
@@ -8,7 +10,8 @@ use Rattle.numbers.proofs.Integers.{zed, of_sum, of_sub, up_neg, dn_neg}
 use Rattle.numbers.proofs.Congruence.{cong, cong_eq, cong_sym, cong_trans, cong_neg}
 use Rattle.numbers.proofs.Remainders.{mod_cong, below-same}
 use Rattle.walks.specs.Walk.{Graph, Between, ahead, back, Closed}
-use Rattle.walks.specs.Label.{Labelled, Shifted}
+use Rattle.walks.specs.Label.{mark_of, labels, times, Labelled, Shifted}
+use Rattle.walks.specs.declared.Mark.{Mark}
 use Rattle.walks.proofs.Labels.{balanced, fits_of_closed, accepted, merged}
 
 -- the way back
@@ -40,3 +43,16 @@ module _ {G : Graph} {te : ℕ → ℤ} {T n k s : ℕ} {label time : ℕ → �
   pub tail_moved : {label' time' : ℕ → ℕ} → label (G.head k) < label (G.tail k)
       → Shifted T n (label (G.tail k)) (label (G.head k)) (pos ((T - s) % T)) label time label' time' → Labelled G te T n (k + 1) label' time'
   tail_moved l S = merged (back k) (pos ((T - s) % T)) E L l (back_excess (pos (time (G.tail k))) (te k) (pos (time (G.head k))) R) S
+
+-- a row in which the events labelled hi are moved to lo and s later by T
+pub shifted : {T n hi lo s : ℕ} (marks marks' : List Mark) → 0 < T
+    → ((v : ℕ) → v < n → labels marks v ≡ hi → mark_of marks' v ≡ record { label = lo; time = (times marks v + s) % T })
+    → ((v : ℕ) → v < n → ¬ (labels marks v ≡ hi) → mark_of marks' v ≡ mark_of marks v)
+    → Shifted T n hi lo (pos s) (labels marks) (times marks) (labels marks') (times marks')
+shifted {T} {s = s} marks marks' t moved kept = record {
+  moved_label = λ v h e. ap (λ (m : Mark). m.label) (moved v h e);
+  moved_under = λ v h e. subst (λ (m : Mark). m.time < T) (sym (moved v h e)) (mod-lt (times marks v + s) t);
+  moved_time = λ v h e. cong_trans (cong_eq T (ap (λ (m : Mark). pos m.time) (moved v h e))) (mod_cong (times marks v + s) T t);
+  kept_label = λ v h f. ap (λ (m : Mark). m.label) (kept v h f);
+  kept_time = λ v h f. ap (λ (m : Mark). m.time) (kept v h f);
+}

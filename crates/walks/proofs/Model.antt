@@ -4,19 +4,12 @@ use mathlib.Core.List.{List, [], ◌∷◌, map}
 use Prim.Native.Nat.{ℕ, zero, suc, ◌+◌, ◌-◌, ◌%◌}
 use lib.Dec.{ltb, eqb}
 use lib.IntN.{ℤ, pos, ◌+ℤ◌, ◌-ℤ◌}
-use lib.ListN.{length, get_or}
+use lib.ListN.{length}
 use Rattle.numbers.specs.Remainder.{remainder}
 use Rattle.walks.specs.Walk.{Graph, graph_of}
 use Rattle.numbers.specs.Row.{at_ℤ}
-
--- an event's label and time
-pub record Mark : Type 0 where
-  pub label : ℕ
-  pub time : ℕ
-
--- the mark of event v
-abbrev pub mark_of : List Mark → ℕ → Mark
-mark_of marks v = get_or marks v (record { label = 0; time = 0 })
+use Rattle.walks.specs.Label.{mark_of}
+use Rattle.walks.specs.declared.Mark.{Mark}
 
 -- n events from v on, each a part of its own, at 0
 unfoldable pub own : ℕ → ℕ → List Mark

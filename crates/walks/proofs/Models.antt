@@ -1,62 +1,41 @@
 -- The computed answer is right: its marks are right for the arcs passed, and where it stops no times allow the arc. Assumes nothing.
 use mathlib.Core.Path.{◌≡◌, refl, sym, ◌∙◌, ap, subst, subst₂}
 use mathlib.Core.Bool.{Bool, true, false, cond}
-use mathlib.Core.List.{List, [], ◌∷◌, map}
+use mathlib.Core.List.{List, map}
 use Prim.Native.Nat.{ℕ, zero, suc, ◌+◌, ◌-◌, ◌%◌, ◌<◌}
-use native.Mathlib.Nat.{mod-lt, le_of_suc-le-suc}
+use native.Mathlib.Nat.{le_of_suc-le-suc}
 use native.Mathlib.Numerals.{add-one}
 use native.Mathlib.Omega.{arith}
 use borrow.Author.Tests.{ltb-true, ltb-false, eqb-true, eqb-false, eq-eqb, ne_eqb}
 use lib.Dec.{ltb, eqb}
 use lib.IntN.{ℤ, pos, ◌+ℤ◌, ◌-ℤ◌}
-use lib.ListN.{length, length-map, get_or-map}
+use lib.ListN.{length, length-map}
+use lib.ListN.{get_or-map as at_map}
+use Rattle.std.proofs.lemmas.List.{get_or-map}
 use Rattle.numbers.specs.Remainder.{IsRemainder, remainder}
-use Rattle.numbers.proofs.Congruence.{cong_eq, cong_trans}
 use Rattle.numbers.proofs.Remainders.{remainder_is}
 use Rattle.walks.specs.Walk.{Graph, Between, Closed}
 use Rattle.numbers.specs.Row.{at}
 use Rattle.walks.specs.Times.{Consistent}
-use Rattle.walks.specs.Label.{Labelled, Shifted}
-use Rattle.walks.proofs.Model.{Mark, mark_of, own, move, Next, marks, none, step, Out, timetable, refused, run, answer}
+use Rattle.walks.specs.Label.{mark_of, labels, times, Labelled, Shifted}
+use Rattle.walks.specs.declared.Mark.{Mark}
+use Rattle.walks.proofs.Model.{own, move, Next, marks, none, step, Out, timetable, refused, run, answer}
 use Rattle.walks.proofs.Walks.{fewer_between}
 use Rattle.walks.proofs.Labels.{at_first, consistent}
-use Rattle.numbers.proofs.Remainders.{mod_cong}
-use Rattle.walks.proofs.Arcs.{kept, not_closed, head_moved, tail_moved}
-
--- ---- the marks as labels and times
-
-abbrev labels : List Mark → ℕ → ℕ
-labels ms v = (mark_of ms v).label
-
-abbrev times : List Mark → ℕ → ℕ
-times ms v = (mark_of ms v).time
+use Rattle.walks.proofs.Arcs.{kept, not_closed, head_moved, tail_moved, shifted}
 
 -- ---- the moved marks
-
-mark-map : (f : Mark → Mark) (ms : List Mark) (v : ℕ) → v < length ms → mark_of (map f ms) v ≡ f (mark_of ms v)
-mark-map f [] v h = absurd (omega arith)
-mark-map f (m ∷ ms) zero h = refl
-mark-map f (m ∷ ms) (suc v) h = mark-map f ms v (le_of_suc-le-suc h)
 
 module _ (T hi lo s : ℕ) (ms : List Mark) where
   moved : (v : ℕ) → v < length ms → labels ms v ≡ hi → mark_of (map (move T hi lo s) ms) v ≡ record { label = lo; time = (times ms v + s) % T }
   moved v h e =
-      mark-map (move T hi lo s) ms v h
+      get_or-map (move T hi lo s) ms v _ _ h
       ∙ ap (λ (b : Bool). cond {A = Mark} b (record { label = lo; time = (times ms v + s) % T }) (mark_of ms v)) (eq-eqb (labels ms v) hi e)
 
   unmoved : (v : ℕ) → v < length ms → ¬ (labels ms v ≡ hi) → mark_of (map (move T hi lo s) ms) v ≡ mark_of ms v
   unmoved v h f =
-      mark-map (move T hi lo s) ms v h
+      get_or-map (move T hi lo s) ms v _ _ h
       ∙ ap (λ (b : Bool). cond {A = Mark} b (record { label = lo; time = (times ms v + s) % T }) (mark_of ms v)) (ne_eqb (labels ms v) hi f)
-
-  shifted : 0 < T → Shifted T (length ms) hi lo (pos s) (labels ms) (times ms) (labels (map (move T hi lo s) ms)) (times (map (move T hi lo s) ms))
-  shifted t = record {
-    moved_label = λ v h e. ap (λ (m : Mark). m.label) (moved v h e);
-    moved_under = λ v h e. subst (λ (m : Mark). m.time < T) (sym (moved v h e)) (mod-lt (times ms v + s) t);
-    moved_time = λ v h e. cong_trans (cong_eq T (ap (λ (m : Mark). pos m.time) (moved v h e))) (mod_cong (times ms v + s) T t);
-    kept_label = λ v h f. ap (λ (m : Mark). m.label) (unmoved v h f);
-    kept_time = λ v h f. ap (λ (m : Mark). m.time) (unmoved v h f);
-  }
 
 -- ---- one arc
 
@@ -78,7 +57,7 @@ module _ {G : Graph} {te : ℕ → ℤ} {T n k : ℕ} {ms : List Mark} (h : 0 < 
     labelled =
         f _ _
         (subst (λ (n : ℕ). Shifted T n hi lo (pos s) (labels ms) (times ms) (labels (map (move T hi lo s) ms)) (times (map (move T hi lo s) ms)))
-        M.events (shifted T hi lo s ms h));
+        M.events (shifted ms _ h (moved T hi lo s ms) (unmoved T hi lo s ms)));
   }
 
   step_right : StepRight G te T n k (step G te T k ms)
@@ -126,7 +105,7 @@ run_right : (G : Graph) (te : ℕ → ℤ) (T n m : ℕ) → 0 < T → Between G
 unfolding run
 run_right G te T n m h E zero k ms e M =
     let all : k ≡ m = omega arith in
-    let same : times ms ≡ at (map (λ m. m.time) ms) = λ i v. sym (get_or-map (λ m. m.time) ms v (record { label = 0; time = 0 })) i in
+    let same : times ms ≡ at (map (λ m. m.time) ms) = λ i v. sym (at_map (λ m. m.time) ms v (record { label = 0; time = 0 })) i in
     record {
       events = length-map ms (λ m. m.time) ∙ M.events;
       label = labels ms;

@@ -1,8 +1,21 @@
 -- What is known after k arcs: for each event a label, the lowest event of its part, and its time after that event. Definitions alone.
-use Rattle.std.specs.Prelude.{◌≡◌, ℕ, ◌≤◌, ◌<◌, ℤ, pos, ◌+ℤ◌}
+use Rattle.std.specs.Prelude.{◌≡◌, List, get_or, ℕ, ◌≤◌, ◌<◌, ℤ, pos, ◌+ℤ◌}
 use Rattle.numbers.specs.Remainder.{Cong}
 use Rattle.walks.specs.Walk.{Graph, Walk, walk_sum}
 use Rattle.walks.specs.Times.{Fits}
+use Rattle.walks.specs.declared.Mark.{Mark}
+
+-- the mark of event v, of a row of marks
+abbrev pub mark_of : List Mark → ℕ → Mark
+mark_of marks v = get_or marks v (record { label = 0; time = 0 })
+
+-- the labels of the events
+abbrev pub labels : List Mark → ℕ → ℕ
+labels marks v = (mark_of marks v).label
+
+-- the times of the events
+abbrev pub times : List Mark → ℕ → ℕ
+times marks v = (mark_of marks v).time
 
 -- a walk from i to j along arcs below k adds up to z, but for a multiple of T
 pub record Reach (G : Graph) (te : ℕ → ℤ) (T k i j : ℕ) (z : ℤ) : Type 0 where

@@ -1,95 +1,135 @@
 // Tensions to times: arc after arc joins two parts, or closes a walk and is tested.
 #![tactic(auto)]
 
-ghost use Rattle.std.specs.Prelude.{◌<◌, pos, ◌+ℤ◌, ◌-ℤ◌, length};
+ghost use Rattle.std.specs.Prelude.{◌≡◌, ◌<◌, ◌≤◌, pos, ◌+ℤ◌, ◌-ℤ◌, length};
 ghost use Rattle.numbers.specs.Remainder.{IsRemainder};
-ghost use Rattle.walks.specs.Place.{Paired, Given, PlacedBy, Begun, Ready, Moved, Placing, Took};
+ghost use Rattle.walks.specs.Place.{Given, PlacedBy, Timed, Begun, Moved, Taken, Noted};
 
-// By how much `from` and the tension run past `to`, from 0 to the period less 1.
-fn excess(from: u32, tension: i32, to: u32, period: u32) -> u32
+// The most events.
+const EVENTS: usize = 64;
+
+// What is known of an event: the lowest event of its part, and its time after that one.
+#[derive(Clone, Copy, Drop)]
+struct Mark {
+    label: u32,
+    time: u32,
+}
+
+// An arc between two events, with its tension.
+#[derive(Drop)]
+struct Arc {
+    tail: usize,
+    head: usize,
+    tension: i32,
+}
+
+// By how much a tail's time and the tension run past the head's time, from 0 to the period less 1.
+fn excess(tail: u32, tension: i32, head: u32, period: u32) -> u32
     requires { 0 < period }
-    ensures { IsRemainder ((pos from +ℤ tension) -ℤ pos to) period result }
+    ensures { IsRemainder ((pos tail +ℤ tension) -ℤ pos head) period result }
 {
-    numbers::remainder(numbers::difference(from, to) + (tension as i64), period)
+    numbers::remainder(numbers::difference(tail, head) + i64::from(tension), period)
 }
 
-// Each event is a part of its own, at 0.
-fn begin(label: &mut [u32], times: &mut [u32])
-    requires { Paired label.old times.old }
-    ensures { Begun (length times.old) label.old times.old label.new times.new }
-{
-    let mut v = 0;
-    while v < label.len() {
-        label[v] = v as u32;
-        times[v] = 0;
-        v += 1;
-    }
-}
-
-// The part labelled `hi` gets the label `lo`, and times that are `shift` later.
-fn relabel(label: &mut [u32], times: &mut [u32], hi: u32, lo: u32, shift: u32, period: u32)
-    requires { Ready label.old times.old shift period }
-    ensures { Moved (length times.old) hi lo shift period label.old times.old label.new times.new }
-{
-    let mut v = 0;
-    while v < label.len() {
-        if label[v] == hi {
-            label[v] = lo;
-            times[v] = (times[v] + shift) % period;
-        }
-        v += 1;
-    }
-}
-
-// Arc k is placed: true, or false where no times allow it together with those before it.
-fn take_arc(
-    tail: &[u32],
-    head: &[u32],
-    tensions: &[i32],
-    k: usize,
+// The parts that the arcs so far make of the events: a mark for each event, with a time below the period.
+#[derive(Drop)]
+struct Parts<'a> {
+    marks: &'a mut [Mark],
     period: u32,
-    label: &mut [u32],
-    times: &mut [u32],
-) -> bool
-    requires k_in_bounds { k < length tail.now }
-    requires placing { Placing tail.now head.now tensions.now period k label.old times.old }
-    ensures { Took tail.now head.now tensions.now period k label.new times.new result }
-{
-    let u = tail[k] as usize;
-    let v = head[k] as usize;
-    let a = label[u];
-    let b = label[v];
-    let over = excess(times[u], tensions[k], times[v], period);
-    if a == b {
-        return over == 0;
-    }
-    if a < b {
-        relabel(label, times, b, a, over, period);
-        return true;
-    }
-    relabel(label, times, a, b, (period - over) % period, period);
-    true
+    ghost timed: { Timed marks.now period },
 }
 
-// The first arc that no times allow together with those before it, or the number of arcs; then `times` is the anchored timetable.
+impl<'a> Parts<'a> {
+    // Each event is a part of its own, at 0.
+    fn new(marks: &'a mut [Mark], period: u32) -> Self
+        requires few { length marks.old ≤ EVENTS }
+        requires positive { 0 < period }
+        requires most { period ≤ 3600 }
+        ensures begun { Begun (length marks.old) marks.old result.marks.now }
+        ensures period { result.period ≡ period }
+    {
+        for (event, mark) in marks.iter_mut().enumerate() {
+            *mark = Mark {
+                label: event as u32,
+                time: 0,
+            };
+        }
+        Parts { marks, period }
+    }
+
+    // The part labelled `from` gets the label `to`, and times that are `shift` later.
+    fn relabel(&mut self, from: u32, to: u32, shift: u32)
+        requires { shift < self.old.period }
+        ensures moved { Moved (length self.old.marks.now) from to shift self.old.period self.old.marks.now self.new.marks.now }
+        ensures period { self.new.period ≡ self.old.period }
+    {
+        for mark in self.marks.iter_mut() {
+            if mark.label == from {
+                *mark = Mark {
+                    label: to,
+                    time: (mark.time + shift) % self.period,
+                };
+            }
+        }
+    }
+
+    // An arc is placed: true, or false where no times allow it together with those before it.
+    fn take_arc(&mut self, arc: &Arc) -> bool
+        requires tail_in { arc.now.tail < length self.old.marks.now }
+        requires head_in { arc.now.head < length self.old.marks.now }
+        ensures taken { Taken arc.now self.old.period self.old.marks.now self.new.marks.now result }
+        ensures period { self.new.period ≡ self.old.period }
+    {
+        let tail = self.marks[arc.tail];
+        let head = self.marks[arc.head];
+        let over = excess(tail.time, arc.tension, head.time, self.period);
+        if tail.label == head.label {
+            return over == 0;
+        }
+        if tail.label < head.label {
+            self.relabel(head.label, tail.label, over);
+            return true;
+        }
+        self.relabel(tail.label, head.label, (self.period - over) % self.period);
+        true
+    }
+
+    // The times of the marks are written.
+    fn note_times(&self, times: &mut [u32])
+        requires { length times.old ≡ length self.now.marks.now }
+        ensures { Noted (length times.old) self.now.marks.now times.new }
+    {
+        // Tried with `zip` over the two rows: the proof of what is written did not close.
+        for (event, time) in times.iter_mut().enumerate() {
+            *time = self.marks[event].time;
+        }
+    }
+}
+
+// The three rows stand apart: they are those of a network and of a caller, and walks know no network.
+// The anchored timetable of arcs with these tensions; or the first arc that no times allow together with those before it, and the times stay as they were.
 pub fn place_arcs(
     tail: &[u32],
     head: &[u32],
     tensions: &[i32],
     period: u32,
-    label: &mut [u32],
     times: &mut [u32],
-) -> usize
-    requires { Given tail.now head.now tensions.now period label.old times.old }
-    ensures { PlacedBy tail head tensions period label times result }
+) -> Result<(), usize>
+    requires { Given tail.now head.now tensions.now period (length times.old) }
+    ensures { PlacedBy tail head tensions period times result }
 {
-    begin(label, times);
-    let mut k = 0;
-    while k < tail.len() {
-        if !take_arc(tail, head, tensions, k, period, label, times) {
-            return k;
+    let mut row = [Mark { label: 0, time: 0 }; EVENTS];
+    let mut parts = Parts::new(&mut row[..times.len()], period);
+    for k in 0..tail.len() {
+        let arc = Arc {
+            tail: tail[k] as usize,
+            head: head[k] as usize,
+            tension: tensions[k],
+        };
+        if !parts.take_arc(&arc) {
+            return Err(k);
         }
-        k += 1;
     }
-    k
+    parts.note_times(times);
+    Ok(())
 }

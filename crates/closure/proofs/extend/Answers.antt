@@ -1,31 +1,27 @@
 -- The spans and the network's own arcs make a network that serves the search.
-use mathlib.Core.List.{List}
-use Prim.Native.Nat.{ℕ}
-use Rattle.network.specs.Network.{Network}
-use Rattle.search.specs.Reduced.{BarsLent}
-use Rattle.closure.specs.Tables.{Table}
-use Rattle.closure.specs.Longer.{Lent}
-use Rattle.closure.proofs.Looks.{spread_asks, refuted, append_asks, serves_longer}
+use mathlib.Core.Path.{ap, ◌∙◌}
+use Rattle.search.specs.Lent.{lent}
+use Rattle.closure.proofs.Looks.{serves_left, open_asks, few_left, refuted, serves_longer}
 use Rattle.closure.proofs.extend.Goals as goal
 
--- the row for the arcs alone
-lent : {N : Network} {bars long : List ℕ} {T : Table} → Lent N bars T long → BarsLent N bars
-lent l = record { well = l.asks.well; long = l.bars_long }
+pub invariant_of-reduced : goal.invariant_of-reduced
+invariant_of-reduced c = record { sized = (serves_left c.network.view_is _ c.requires.bars_long c.reduce.ensures).sized }
 
-pub spread-rounds-requires : goal.spread-rounds-requires
-spread-rounds-requires c = spread_asks (lent c.requires) c.reduce.ensures c.requires.roomy
+pub widen-table-requires : goal.widen-table-requires
+widen-table-requires c = open_asks c.network.view_is c.requires.spans_long
 
-pub returns-then-rounds-eq0 : goal.returns-then-rounds-eq0
-returns-then-rounds-eq0 c = record {
-  none = refuted (lent c.requires) c.reduce.ensures c.spread-rounds.ensures;
-  some = λ n. absurd (n c.if-rounds-eq0.true);
-}
+pub returns-in_err-rounds : goal.returns-in_err-rounds
+returns-in_err-rounds c =
+    rw c.from_residual.ensures
+    (refuted c.network.view_is _ c.requires.bars_long c.reduce.ensures (ap lent c.widen-table.ensures) c.close.ensures.step.some c.in_err-rounds.was)
 
 pub append_all-arcs-requires : goal.append_all-arcs-requires
-append_all-arcs-requires c = append_asks (lent c.requires) c.reduce.ensures c.spread-rounds.ensures c.requires.asks.room
+append_all-arcs-requires c =
+    let q = ap lent (c.close.ensures.step.network ∙ c.widen-table.ensures) in
+    record { own_few = few_left c.network.view_is _ c.requires.bars_long c.reduce.ensures q; long = c.requires.room }
 
 pub returns : goal.returns
-returns c = record {
-  none = refuted (lent c.requires) c.reduce.ensures c.spread-rounds.ensures;
-  some = λ n. serves_longer (lent c.requires) c.reduce.ensures c.append_all-arcs.ensures;
-}
+returns c =
+    let q = ap lent (c.close.ensures.step.network ∙ c.widen-table.ensures) in
+    let l = serves_longer c.network.view_is _ c.requires.bars_long c.reduce.ensures q c.append_all-arcs.ensures in
+    (l.0, l.1, c.in_ok-rounds.ensures.some_rounds)

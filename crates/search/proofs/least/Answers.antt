@@ -1,16 +1,13 @@
--- It lends rows of its own, an entry for each event, one for each arc and 64 for the blame.
-use Rattle.std.proofs.Common.{refl}
-use lib.Seq.{length-take-le}
-use Rattle.search.proofs.Threads.{no_arc}
+-- It lends rows of its own, threads the arcs and places event 0.
+use Rattle.std.proofs.Common.{subst}
+use Rattle.search.specs.Lent.{lent}
+use Rattle.search.specs.Looked.{Sought}
+use Rattle.search.proofs.Threads.{thread_asks}
+use Rattle.search.proofs.Steps.{sought}
 use Rattle.search.proofs.least.Goals as goal
 
-pub look-requires-clause-lent : goal.look-requires-clause-lent
-look-requires-clause-lent c =
-    let few_events = c.requires.sized.few in
-    let few = c.requires.sized.barred.few_arcs in
-    record {
-      firsts_long = length-take-le _ _ few_events;
-      nexts_long = length-take-le _ _ few;
-      empty = λ v h. no_arc _ v few_events h few;
-      blame_long = refl;
-    }
+pub new-threads-requires : goal.new-threads-requires
+new-threads-requires c = thread_asks c.args.network.now.sized
+
+pub returns : goal.returns
+returns c = subst (λ r. Sought (lent r) c.place.new.times c.place.result) c.new-threads.ensures (sought _ c.place.ensures)

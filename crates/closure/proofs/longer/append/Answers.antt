@@ -1,7 +1,9 @@
 -- It writes the arc that the span implies, or keeps the row.
-use native.Mathlib.Omega.{arith}
+use Rattle.closure.proofs.Tables.{read_is}
 use Rattle.closure.proofs.Longers.{appended}
 use Rattle.closure.proofs.longer.append.Goals as goal
 
 pub returns : goal.returns
-returns c = appended c.requires (omega (arith, c.if-own-count.false)) c.put.ensures
+returns c =
+    let p = c.requires in
+    appended p c.if-own-count.false (read_is c.args.table.now _ _ _ c.place.ensures p.row.event p.second)

@@ -1,32 +1,36 @@
 -- The arcs passed stand there if their earlier end is i, and they are counted.
-use mathlib.Core.Path.{◌≡◌}
 use Prim.Native.Nat.{◌+◌}
 use native.Mathlib.Omega.{arith}
-use Rattle.closure.proofs.Longers.{grown_picks, grown_row, below_none, own_room, picks_count}
+use Rattle.closure.proofs.Longers.{grown_passed, grown_taken, below_none, row_yes, row_no, own_room}
 use Rattle.closure.proofs.longer.append_own.Goals as goal
+use Rattle.closure.proofs.longer.append_own.Goals.{then-bar-i, else-bar-i}
 
-pub loop-arc-init : goal.loop-arc-init
-loop-arc-init c = (omega arith, omega (arith, below_none c.args.bars.now c.args.i, below_none c.args.bars.now (c.args.i + 1)), c.requires.grown)
+pub loop-bar-init : goal.loop-bar-init
+loop-bar-init c =
+    let bars = c.args.network.now.bars.now in
+    (omega (arith, below_none bars c.args.i, below_none bars (c.args.i + 1)), c.requires.grown)
 
-pub append_arc-count-requires : goal.append_arc-count-requires
-append_arc-count-requires c =
-    let b = c.requires.sized.barred in
-    let room = own_room c.args.bars.now c.args.i c.args.first c.loop-arc-test.true c.loop-arc.invariant.1 c.requires.room in
-    record {
-      arc = omega (arith, b.long, c.loop-arc-test.true);
-      few = omega (arith, b.few_arcs, c.loop-arc-test.true);
-      room = λ e. record { few = room e; arc = omega (arith, room e, c.loop-arc.invariant.2.long) };
-    }
+pub offset_bounds-longer-count : goal.offset_bounds-longer-count
+offset_bounds-longer-count c = omega (arith, own_room c.requires c.loop-bar-test.true c.loop-bar.invariant.0 c.if-bar-i.true)
 
-pub loop-arc-preserved : goal.loop-arc-preserved
-loop-arc-preserved c = (
-  omega (arith, c.loop-arc-test.true),
-  picks_count _ _ c.args.first c.append_arc-count.ensures c.loop-arc.invariant.1,
-  grown_picks c.requires.sized c.loop-arc-test.true c.loop-arc.invariant.2
-      (own_room _ _ c.args.first c.loop-arc-test.true c.loop-arc.invariant.1 c.requires.room) c.append_arc-count.ensures,
-)
+pub bounds-longer-count : goal.bounds-longer-count
+bounds-longer-count c =
+    omega (arith, own_room c.requires c.loop-bar-test.true c.loop-bar.invariant.0 c.if-bar-i.true, c.loop-bar.invariant.1.long)
 
-pub returns : goal.returns
-returns c =
-    let e : c.loop-arc.arc ≡ c.args.m = omega (arith, c.loop-arc.invariant.0, c.loop-arc-test.false) in
-    record { grown = grown_row (rw e at c.loop-arc.invariant.2); count = rw e at c.loop-arc.invariant.1 }
+pub overflow_add-count : goal.overflow_add-count
+overflow_add-count c = omega (arith, own_room c.requires c.loop-bar-test.true c.loop-bar.invariant.0 c.if-bar-i.true)
+
+pub loop-bar-preserved : goal.loop-bar-preserved
+loop-bar-preserved c =
+    let bars = c.args.network.now.bars.now in
+    let i = c.loop-bar.invariant in
+    elim c.if-bar-i.branch [
+      | then-bar-i w ↦
+          let e = w.if-bar-i.true in
+          let room = own_room c.requires c.loop-bar-test.true i.0 e in
+          rw (w.longer-is, w.count-is)
+          (omega (arith, row_yes bars c.args.i c.loop-bar.bar-index e, i.0), grown_taken c.args.network.now.sized c.loop-bar-test.true i.1 room)
+      | else-bar-i w ↦
+          let n = w.if-bar-i.false in
+          rw (w.longer-is, w.count-is) (omega (arith, row_no bars c.args.i c.loop-bar.bar-index n, i.0), grown_passed i.1 n)
+    ]

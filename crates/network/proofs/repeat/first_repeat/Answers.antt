@@ -9,5 +9,5 @@ use Rattle.network.proofs.repeat.first_repeat.Goals as goal
 
 pub scan-requires : goal.scan-requires
 scan-requires c =
-    chained_none c.requires (length-take-le _ _ c.requires.event_count.most) (length-take-le _ _ c.requires.even.few_arcs)
-    (λ v h. get_or-take {A = ℕ} _ (replicate 64 0) v 0 h ∙ get_or-replicate {A = ℕ} 64 v 0 0 (omega (arith, h, c.requires.event_count.most)))
+    chained_none c.requires (length-take-le _ _ (omega arith) ∙ c.events.ensures) (length-take-le _ _ (omega arith) ∙ c.arcs.ensures)
+    (λ v h. get_or-take {A = ℕ} _ (replicate 64 0) v 0 (omega arith) ∙ get_or-replicate {A = ℕ} 64 v 0 0 (omega arith))

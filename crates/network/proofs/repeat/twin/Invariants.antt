@@ -1,10 +1,9 @@
 -- None of the arcs passed has the same head.
-use Rattle.network.specs.Network.{net}
 use Rattle.network.specs.Pairs.{Down}
 use Rattle.network.proofs.repeat.twin.Given as goal
 
 abbrev pub invariant-loop-next : goal.invariant-loop-next
-invariant-loop-next l = Down (net l.periods l.tail l.head l.lower l.upper l.weight) l.arc l.next
+invariant-loop-next l = Down l.network l.arc l.next
 
 abbrev pub decreases-loop-next : goal.decreases-loop-next
 decreases-loop-next l = l.next

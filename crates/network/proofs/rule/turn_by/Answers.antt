@@ -6,7 +6,7 @@ use mir.Val.{SFits, to_z, of_z, hbits}
 use Rattle.numbers.specs.Remainder.{IsQuotient, quotient}
 use Rattle.numbers.proofs.Integers.{sfits_ℤ, of_abs}
 use Rattle.numbers.proofs.Quotients.{quotient_only}
-use Rattle.numbers.proofs.Bits.{Bits, of, of_pos, by, sub, sub_bits, cast, cast_bits}
+use Rattle.numbers.proofs.Bits.{Bits, of, of_pos, by, sub_bits, cast, cast_bits}
 use Rattle.network.specs.Inner.{Turning}
 use Rattle.network.proofs.Arcs.{beyond_kept}
 use Rattle.network.proofs.Turns.{turns, turn_by_is, turns_small}
@@ -25,25 +25,17 @@ module _ {g : ℕ} {low b q : ℤ} (from to : ℕ) (p : Turning g low from to) (
   q_bits : Bits w64 (of_z w64 q) (quotient ((pos to -ℤ pos from) -ℤ low) g)
   q_bits = by (of (record { sfits = f })) (quotient_only k ∙ ap (λ (y : ℤ). quotient y g) (beyond_kept from to d l e))
 
-  sub_z : SFits w64 (pos 0 -ℤ to_z w64 (of_z w64 q))
-  sub_z = sub (of_pos {n = 0} (omega arith)) q_bits (small w64 p (omega arith))
-
   z_bits : Bits w64 (of_z w64 (pos 0 -ℤ to_z w64 (of_z w64 q))) (turns g low from to)
   z_bits = sub_bits (of_pos {n = 0} (omega arith)) q_bits (small w64 p (omega arith))
-
-pub overflow_sub-z : goal.overflow_sub-z
-overflow_sub-z c =
-    let a = c.args in
-    sub_z a.from a.to c.requires c.ranges.low c.beyond.type_inv c.quotient-q.type_inv c.beyond.ensures c.quotient-q.ensures
 
 pub overflow_cast-result : goal.overflow_cast-result
 overflow_cast-result c =
     let a = c.args in
-    let z = z_bits a.from a.to c.requires c.ranges.low c.beyond.type_inv c.quotient-q.type_inv c.beyond.ensures c.quotient-q.ensures in
+    let z = z_bits a.from a.to c.requires c.ranges.low c.beyond.type_inv c.quotient-quotient.type_inv c.beyond.ensures c.quotient-quotient.ensures in
     cast z (small w32 c.requires (omega arith))
 
 pub returns : goal.returns
 returns c =
     let a = c.args in
-    let z = z_bits a.from a.to c.requires c.ranges.low c.beyond.type_inv c.quotient-q.type_inv c.beyond.ensures c.quotient-q.ensures in
+    let z = z_bits a.from a.to c.requires c.ranges.low c.beyond.type_inv c.quotient-quotient.type_inv c.beyond.ensures c.quotient-quotient.ensures in
     (cast_bits z (small w32 c.requires (omega arith))).is ∙ turn_by_is a.g a.low a.from a.to c.requires.some

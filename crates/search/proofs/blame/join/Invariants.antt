@@ -1,11 +1,6 @@
 -- Of the events passed those of both rows are blamed.
-use Prim.Native.Nat.{◌-◌}
-use lib.ListN.{length}
 use Rattle.search.specs.Marks.{Joining}
 use Rattle.search.proofs.blame.join.Given as goal
 
 abbrev pub invariant-loop-event : goal.invariant-loop-event
 invariant-loop-event l = Joining l.initial.blame l.other l.blame l.event
-
-abbrev pub decreases-loop-event : goal.decreases-loop-event
-decreases-loop-event l = length l.other - l.event

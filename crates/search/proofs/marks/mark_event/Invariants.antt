@@ -1,11 +1,12 @@
 -- The arcs passed have marked their times.
-use Prim.Native.Nat.{◌-◌}
-use lib.ListN.{length}
-use Rattle.search.specs.Marks.{EventTurn}
+use Rattle.std.proofs.Common.{◌-◌}
+use Rattle.search.specs.Lent.{lent}
+use Rattle.search.specs.Reduced.{arcs_in}
+use Rattle.search.specs.Marks.{passed, EventTurn}
 use Rattle.search.proofs.marks.mark_event.Given as goal
 
-abbrev pub invariant-loop-arc : goal.invariant-loop-arc
-invariant-loop-arc l = EventTurn l.bars (length l.nexts) l.times l.k l.initial.row l.row l.blame l.arc
+abbrev pub invariant-loop-next : goal.invariant-loop-next
+invariant-loop-next l = EventTurn (lent l.threads.network) l.times l.k l.initial.row l.row l.blame l.next
 
-abbrev pub decreases-loop-arc : goal.decreases-loop-arc
-decreases-loop-arc l = length l.nexts - l.arc
+abbrev pub decreases-loop-next : goal.decreases-loop-next
+decreases-loop-next l = arcs_in (lent l.threads.network) - passed (lent l.threads.network) l.next

@@ -1,38 +1,19 @@
 -- The laps passed have their run.
-use native.Mathlib.Omega.{arith}
-use Rattle.search.proofs.Marking.{runs_first, runs_more, runs_last}
+use Rattle.std.proofs.Common.{refl, arith}
+use Rattle.search.proofs.Marking.{runs_more, runs_left, runs_last}
 use Rattle.search.proofs.marks.mark_runs.Goals as goal
-
-pub loop-from-init : goal.loop-from-init
-loop-from-init c = runs_first c.requires
-
-pub overflow_add-from : goal.overflow_add-from
-overflow_add-from c =
-    let p = c.requires in
-    omega (arith, c.loop-from-test.true, c.loop-from.invariant.long, p.few, p.run_most, p.gap_most)
-
-pub overflow_add-from-in-loop-from : goal.overflow_add-from-in-loop-from
-overflow_add-from-in-loop-from c =
-    let p = c.requires in
-    omega (arith, c.loop-from-test.true, c.loop-from.invariant.long, p.few, p.gap_most)
-
-pub loop-from-smaller : goal.loop-from-smaller
-loop-from-smaller c =
-    let p = c.requires in
-    omega (arith, c.loop-from-test.true, c.loop-from.invariant.long, p.run_most)
+use Rattle.search.proofs.marks.mark_runs.Goals.{else-loop-from-test, then-loop-from-test+else-gap-from-end}
 
 pub loop-from-preserved : goal.loop-from-preserved
-loop-from-preserved c = runs_more c.requires c.loop-from.invariant c.mark_run.auto.row c.mark_run.ensures c.either-fresh.ensures
-
-pub overflow_add-end : goal.overflow_add-end
-overflow_add-end c =
-    let p = c.requires in
-    omega (arith, p.start_most, p.run_most, p.gap_most)
-
-pub overflow_sub-end : goal.overflow_sub-end
-overflow_sub-end c = omega (arith, c.lesser.ensures)
+loop-from-preserved c = runs_more c.requires c.loop-from.invariant c.mark_run-fresh.auto.row c.mark_run-fresh.ensures refl
 
 pub returns : goal.returns
 returns c =
-    runs_last c.requires c.loop-from.invariant c.mark_run-2.ensures (omega (arith, c.lesser.ensures)) (omega (arith, c.loop-from-test.false, c.loop-from.invariant.long))
-    c.either.ensures
+    elim c.loop-from-test.branch [
+      | else-loop-from-test w ↦
+          let left = runs_left c.loop-from.invariant w.row-is w.fresh-is in
+          runs_last c.requires left c.mark_run.ensures c.saturating_sub-rest.ensures w.loop-from-test.false refl
+      | then-loop-from-test+else-gap-from-end w ↦
+          let more = runs_more c.requires c.loop-from.invariant w.mark_run-fresh.auto.row w.mark_run-fresh.ensures refl in
+          runs_last c.requires (runs_left more w.row-is w.fresh-is) c.mark_run.ensures c.saturating_sub-rest.ensures (omega arith) refl
+    ]

@@ -1,25 +1,21 @@
--- Every place passed is marked.
-use native.Mathlib.Omega.{arith}
-use Rattle.search.proofs.Marking.{walk_found, walk_more, walk_last}
+-- The places before the one found are marked, and so are all where none is found.
+use Rattle.std.proofs.Common.{◌≡◌, ◌<◌, true, false, ℕ, length, get_or, sym, subst, rules}
+use Rattle.std.specs.List.{between}
+use Rattle.search.specs.Marks.{FirstFree}
+use Rattle.search.proofs.Marking.{walk_found, walk_none}
 use Rattle.search.proofs.marks.next_time.Goals as goal
 
-pub skip-x-requires : goal.skip-x-requires
-skip-x-requires c = c.requires
-
-pub loop-x-init : goal.loop-x-init
-loop-x-init c = c.skip-x.ensures
-
-pub bounds-row-x : goal.bounds-row-x
-bounds-row-x c = c.loop-x-test.true
-
-pub returns-then-not-row-x : goal.returns-then-not-row-x
-returns-then-not-row-x c = walk_found c.loop-x.invariant c.if-not-row-x.true
-
-pub loop-x-smaller : goal.loop-x-smaller
-loop-x-smaller c = omega (arith, c.loop-x-test.true)
-
-pub loop-x-preserved : goal.loop-x-preserved
-loop-x-preserved c = walk_more c.loop-x.invariant c.loop-x-test.true c.if-not-row-x.false
+pub returns-in_err-passed : goal.returns-in_err-passed
+returns-in_err-passed c =
+    let rest = between c.skip-start.result (length c.args.row.now) c.args.row.now in
+    let marked : (k : ℕ) → k < length rest → get_or rest k false ≡ true = λ k h. search rules in
+    subst (FirstFree c.args.row.now c.args.from) (sym c.from_residual.ensures) (walk_none c.skip-start.ensures marked)
 
 pub returns : goal.returns
-returns c = walk_last c.loop-x.invariant c.loop-x-test.false
+returns c =
+    let rest = between c.skip-start.result (length c.args.row.now) c.args.row.now in
+    let passed = c.in_ok-passed.passed in
+    let room : passed < length rest = search rules in
+    let free : get_or rest passed false ≡ false = search rules in
+    let marked : (k : ℕ) → k < passed → get_or rest k false ≡ true = λ k h. search rules in
+    walk_found c.skip-start.ensures room marked free

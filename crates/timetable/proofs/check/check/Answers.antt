@@ -1,42 +1,36 @@
 -- One law for each way out.
-use mathlib.Core.Path.{ap, ◌∙◌}
 use native.Mathlib.Omega.{arith}
-use Rattle.network.specs.Refusals.{answer}
-use Rattle.network.proofs.Sound.{sound, well_of}
+use Rattle.timetable.proofs.Judging.{handed_on, few_events, few_arcs}
 use Rattle.timetable.proofs.Checks.{check_network, check_9, check_14, check_15, check_0}
 use Rattle.timetable.proofs.check.check.Goals as goal
 
-pub returns-then-found-ne0 : goal.returns-then-found-ne0
-returns-then-found-ne0 c = record { answer = check_network _ _ c.refusal-found.ensures c.if-found-ne0.true }
+pub returns-in_err-network : goal.returns-in_err-network
+returns-in_err-network c =
+    rw (handed_on c.from_residual.ensures) (check_network _ _ _ c.arcs.ensures c.in_err-network.ensures)
 
-pub returns-then-times-periods : goal.returns-then-times-periods
-returns-then-times-periods c =
-    let w = well_of c.refusal-found.ensures c.if-found-ne0.false in
-    record { answer = c.refused.ensures ∙ check_9 _ _ w c.if-times-periods.true }
+pub returns-in_err-timed : goal.returns-in_err-timed
+returns-in_err-timed c =
+    rw (handed_on c.from_residual-in_err-timed.ensures, c.in_err-timed.ensures.0, ← c.in_ok-network.ensures.0) (check_9 _ _ c.in_ok-network.network.well c.in_err-timed.ensures.1)
 
-pub refused-requires-then-event-periods : goal.refused-requires-then-event-periods
-refused-requires-then-event-periods c =
-    let w = well_of c.refusal-found.ensures c.if-found-ne0.false in
-    omega (arith, c.if-event-periods.true, (sound _ w).event_count.most)
+pub at-requires : goal.at-requires
+at-requires c = omega (arith, c.in-Some.ensures.0, few_events c.in_ok-timed.timed.network.well)
 
-pub returns-then-event-periods : goal.returns-then-event-periods
-returns-then-event-periods c =
-    let w = well_of c.refusal-found.ensures c.if-found-ne0.false in
-    record { answer = c.refused-then-event-periods.ensures ∙ check_14 _ _ w c.if-times-periods.false c.first_late-event.ensures c.if-event-periods.true }
+pub returns-in-Some : goal.returns-in-Some
+returns-in-Some c =
+    let d = c.in_ok-timed.timed in
+    rw (c.at.ensures, ← c.in_ok-network.ensures.0, ← c.in_ok-timed.ensures.0, ← c.in_ok-timed.ensures.1) (check_14 _ _ d.network.well d.long c.in-Some.ensures)
 
-pub refused-requires-then-arc-tail : goal.refused-requires-then-arc-tail
-refused-requires-then-arc-tail c =
-    let w = well_of c.refusal-found.ensures c.if-found-ne0.false in
-    omega (arith, c.if-arc-tail.true, (sound _ w).even.few_arcs)
+pub at-requires-in-Some-first_unmet : goal.at-requires-in-Some-first_unmet
+at-requires-in-Some-first_unmet c = omega (arith, c.in-Some-first_unmet.ensures.0, few_arcs c.in_ok-timed.timed.network.well)
 
-pub returns-then-arc-tail : goal.returns-then-arc-tail
-returns-then-arc-tail c =
-    let w = well_of c.refusal-found.ensures c.if-found-ne0.false in
-    let law = check_15 _ _ w c.if-times-periods.false c.first_late-event.ensures c.if-event-periods.false in
-    record { answer = c.refused-then-arc-tail.ensures ∙ law c.first_unmet-arc.ensures c.if-arc-tail.true }
+pub returns-in-Some-first_unmet : goal.returns-in-Some-first_unmet
+returns-in-Some-first_unmet c =
+    let d = c.in_ok-timed.timed in
+    rw (c.at-in-Some-first_unmet.ensures, ← c.in_ok-network.ensures.0, ← c.in_ok-timed.ensures.0, ← c.in_ok-timed.ensures.1)
+    (check_15 _ _ d.network.well d.long c.in_default.ensures c.in-Some-first_unmet.ensures)
 
 pub returns : goal.returns
 returns c =
-    let w = well_of c.refusal-found.ensures c.if-found-ne0.false in
-    let law = check_0 _ _ w c.if-times-periods.false c.first_late-event.ensures c.if-event-periods.false in
-    record { answer = ap (answer 0 0) c.cost-cost.ensures ∙ law c.first_unmet-arc.ensures c.if-arc-tail.false }
+    let d = c.in_ok-timed.timed in
+    rw (← c.in_ok-network.ensures.0, ← c.in_ok-timed.ensures.0, ← c.in_ok-timed.ensures.1)
+    (check_0 _ _ d.network.well d.long c.in_default.ensures c.in_default-first_unmet.ensures c.cost.ensures)

@@ -1,59 +1,42 @@
 -- One law for each way out.
-use Prim.Native.Nat.{ℕ}
-use mathlib.Core.Path.{◌≡◌, sym, ap, ◌∙◌}
-use mathlib.Core.List.{List}
+use mathlib.Core.Path.{sym, ◌∙◌}
 use native.Mathlib.Omega.{arith}
-use Rattle.network.specs.Network.{Network, net}
-use Rattle.network.specs.PublicRule.{cost_of}
-use Rattle.network.specs.Refusals.{answer}
-use Rattle.network.specs.Rows.{ArcRows}
-use Rattle.network.specs.Inner.{Noted}
-use Rattle.network.proofs.Sound.{sound, well_of}
 use Rattle.network.proofs.Times.{on_time}
-use Rattle.timetable.specs.Measure.{measure_of, Measured}
-use Rattle.timetable.proofs.Measures.{measure_network, measure_9_times, measure_9_rows, measure_14, measure_0, measured_not, measured_refused, measured}
+use Rattle.timetable.proofs.Judging.{handed_on, few_events}
+use Rattle.timetable.proofs.Measures.{measure_network, measure_9_times, measure_9_rows, measure_14, measure_0}
 use Rattle.timetable.proofs.measure.measure.Goals as goal
 
--- code 0, with the rows and the cost that were noted
-all_noted : {N : Network} {t : List ℕ} {was is : ArcRows} {x : ℕ} → answer 0 0 (cost_of N t) ≡ measure_of N t was → Noted N t was is x
-    → Measured N t was is (answer 0 0 x)
-all_noted a n = measured (ap (answer 0 0) n.cost) a n.rows
+pub returns-in_err-network : goal.returns-in_err-network
+returns-in_err-network c =
+    rw (handed_on c.from_residual.ensures) (measure_network _ _ _ _ c.arcs.ensures c.in_err-network.ensures)
 
-pub returns-then-found-ne0 : goal.returns-then-found-ne0
-returns-then-found-ne0 c = measured_not c.if-found-ne0.true (measure_network _ _ _ c.refusal-found.ensures c.if-found-ne0.true)
-
-pub returns-then-times-periods : goal.returns-then-times-periods
-returns-then-times-periods c =
-    let w = well_of c.refusal-found.ensures c.if-found-ne0.false in
-    measured_refused {N = net _ _ _ _ _ _} (omega arith) c.refused.ensures (measure_9_times _ _ _ w c.if-times-periods.true)
+pub returns-in_err-timed : goal.returns-in_err-timed
+returns-in_err-timed c =
+    rw (handed_on c.from_residual-in_err-timed.ensures, c.in_err-timed.ensures.0, ← c.in_ok-network.ensures.0)
+    (measure_9_times _ _ _ c.in_ok-network.network.well c.in_err-timed.ensures.1)
 
 pub returns-then-short : goal.returns-then-short
 returns-then-short c =
-    let w = well_of c.refusal-found.ensures c.if-found-ne0.false in
-    let s = sym c.short.ensures ∙ c.if-short.true in
-    measured_refused {N = net _ _ _ _ _ _} (omega arith) c.refused-then-short.ensures (measure_9_rows _ _ _ w c.if-times-periods.false s)
+    let d = c.in_ok-timed.timed in
+    let s = rw c.arcs-2.ensures at (sym c.short.ensures ∙ c.if-short.true) in
+    rw (c.at.ensures, ← c.in_ok-network.ensures.0, ← c.in_ok-timed.ensures.0, ← c.in_ok-timed.ensures.1) (measure_9_rows _ _ _ d.network.well d.long s)
 
-pub refused-requires-then-event-periods : goal.refused-requires-then-event-periods
-refused-requires-then-event-periods c =
-    let w = well_of c.refusal-found.ensures c.if-found-ne0.false in
-    omega (arith, c.if-event-periods.true, (sound _ w).event_count.most)
+pub at-requires-in-Some : goal.at-requires-in-Some
+at-requires-in-Some c = omega (arith, c.in-Some.ensures.0, few_events c.in_ok-timed.timed.network.well)
 
-pub returns-then-event-periods : goal.returns-then-event-periods
-returns-then-event-periods c =
-    let w = well_of c.refusal-found.ensures c.if-found-ne0.false in
-    let s = sym c.short.ensures ∙ c.if-short.false in
-    measured_refused {N = net _ _ _ _ _ _} (omega arith) c.refused-then-event-periods.ensures
-    (measure_14 _ _ _ w c.if-times-periods.false s c.first_late-event.ensures c.if-event-periods.true)
+pub returns-in-Some : goal.returns-in-Some
+returns-in-Some c =
+    let d = c.in_ok-timed.timed in
+    let s = rw c.arcs-2.ensures at (sym c.short.ensures ∙ c.if-short.false) in
+    rw (c.at-in-Some.ensures, ← c.in_ok-network.ensures.0, ← c.in_ok-timed.ensures.0, ← c.in_ok-timed.ensures.1)
+    (measure_14 _ _ _ d.network.well d.long s c.in-Some.ensures)
 
-pub note_arcs-cost-requires : goal.note_arcs-cost-requires
-note_arcs-cost-requires c = record {
-  well = well_of c.refusal-found.ensures c.if-found-ne0.false;
-  timetable = on_time c.if-times-periods.false (λ v h. c.first_late-event.ensures.before v (omega (arith, c.if-event-periods.false)));
-  room = sym c.short.ensures ∙ c.if-short.false;
-}
+pub note_arcs-requires-clause-timetable : goal.note_arcs-requires-clause-timetable
+note_arcs-requires-clause-timetable c = on_time c.in_ok-timed.timed.long c.in_default.ensures.before
 
 pub returns : goal.returns
 returns c =
-    let w = well_of c.refusal-found.ensures c.if-found-ne0.false in
-    let s = sym c.short.ensures ∙ c.if-short.false in
-    all_noted {N = net _ _ _ _ _ _} (measure_0 _ _ _ w c.if-times-periods.false s c.first_late-event.ensures c.if-event-periods.false) c.note_arcs-cost.ensures
+    let d = c.in_ok-timed.timed in
+    let s = rw c.arcs-2.ensures at (sym c.short.ensures ∙ c.if-short.false) in
+    rw (← c.in_ok-network.ensures.0, ← c.in_ok-timed.ensures.0, ← c.in_ok-timed.ensures.1)
+    (measure_0 _ _ _ d.network.well d.long s c.in_default.ensures c.note_arcs.ensures)

@@ -1,81 +1,60 @@
 -- One law for each way out.
-use Prim.Native.Nat.{ℕ, ◌≤◌}
-use mathlib.Core.Path.{◌≡◌, refl, sym}
+use mathlib.Core.Path.{ap}
 use native.Mathlib.Omega.{arith}
-use lib.Seq.{length-take-le}
-use Rattle.network.specs.declared.Answer.{Answer}
-use Rattle.network.specs.Network.{Network, net, events}
-use Rattle.network.specs.Table.{refusal_of}
-use Rattle.network.specs.Trial.{Sound}
-use Rattle.network.proofs.Sound.{sound, clear_with, long_with, well_with}
-use Rattle.timetable.specs.Rebuild.Rebuilt.{refused, judged}
-use Rattle.timetable.proofs.Rebuilds.{rebuild_network, rebuild_9, rebuild_11, rebuild_12, sheet_of, judged_sheet, rebuilt_refused}
+use Rattle.network.specs.Network.{arcs}
+use Rattle.network.proofs.Sound.{sound, long_with}
+use Rattle.timetable.proofs.Judging.{handed_on, few_events, few_arcs, clear_rows}
+use Rattle.timetable.proofs.Rebuilds.{rebuild_network, rebuild_9, rebuild_11, rebuild_12, rebuild_given, rebuild_13, rebuild_0}
 use Rattle.timetable.proofs.rebuild.rebuild.Goals as goal
 
--- a network that is not refused, its tensions as one more row
-module _ (N : Network) (further : ℕ) {r : Answer} (e : r ≡ refusal_of N further) (z : r.code ≡ 0) where
-  has : Sound N
-  has = sound N (well_with N further (clear_with N further e z))
+pub returns-in_err-network : goal.returns-in_err-network
+returns-in_err-network c =
+    rw (handed_on c.from_residual.ensures) (rebuild_network _ _ _ _ c.in_err-network.ensures)
 
-  few : events N ≤ 64
-  few = has.event_count.most
+pub returns-then-times-count : goal.returns-then-times-count
+returns-then-times-count c =
+    rw (c.at.ensures, ← c.in_ok-network.ensures.0)
+    (rebuild_9 _ _ _ (clear_rows _ c.in_ok-network.ensures) (omega (arith, c.if-times-count.true, c.events-count.ensures)))
 
-pub returns-then-found-ne0 : goal.returns-then-found-ne0
-returns-then-found-ne0 c = refused c.if-found-ne0.true (rebuild_network _ _ _ c.refusal-found.ensures c.if-found-ne0.true) refl
+pub at-requires-in-Some : goal.at-requires-in-Some
+at-requires-in-Some c = omega (arith, c.in-Some.ensures.0, few_events c.in_ok-network.network.well)
 
-pub returns-then-times-periods : goal.returns-then-times-periods
-returns-then-times-periods c =
-    let k = clear_with _ _ c.refusal-found.ensures c.if-found-ne0.false in
-    rebuilt_refused {N = net _ _ _ _ _ _} (omega arith) c.refused.ensures (rebuild_9 _ _ _ k c.if-times-periods.true)
+pub returns-in-Some : goal.returns-in-Some
+returns-in-Some c =
+    rw (c.at-in-Some.ensures, ← c.in_ok-network.ensures.0)
+    (rebuild_11 _ _ _ (clear_rows _ c.in_ok-network.ensures) (omega (arith, c.if-times-count.false, c.events-count.ensures)) c.in-Some.ensures)
 
-pub refused-requires-then-event-periods : goal.refused-requires-then-event-periods
-refused-requires-then-event-periods c = omega (arith, c.if-event-periods.true, few _ _ c.refusal-found.ensures c.if-found-ne0.false)
+pub first_astray-requires : goal.first_astray-requires
+first_astray-requires c = long_with _ _ (clear_rows _ c.in_ok-network.ensures)
 
-pub returns-then-event-periods : goal.returns-then-event-periods
-returns-then-event-periods c =
-    let k = clear_with _ _ c.refusal-found.ensures c.if-found-ne0.false in
-    rebuilt_refused {N = net _ _ _ _ _ _} (omega arith) c.refused-then-event-periods.ensures
-    (rebuild_11 _ _ _ k c.if-times-periods.false c.first_other-event.ensures c.if-event-periods.true)
+pub at-requires-in-Some-first_astray : goal.at-requires-in-Some-first_astray
+at-requires-in-Some-first_astray c = omega (arith, c.in-Some-first_astray.ensures.0, few_arcs c.in_ok-network.network.well)
 
-pub first_astray-arc-requires : goal.first_astray-arc-requires
-first_astray-arc-requires c =
-    let k = clear_with _ _ c.refusal-found.ensures c.if-found-ne0.false in
-    record { well = well_with _ _ k; long = long_with _ _ k }
+pub returns-in-Some-first_astray : goal.returns-in-Some-first_astray
+returns-in-Some-first_astray c =
+    rw (c.at-in-Some-first_astray.ensures, ← c.in_ok-network.ensures.0)
+    (rebuild_12 _ _ _ (clear_rows _ c.in_ok-network.ensures) (omega (arith, c.if-times-count.false, c.events-count.ensures)) c.in_default.ensures
+    c.in-Some-first_astray.ensures)
 
-pub refused-requires-then-arc-tail : goal.refused-requires-then-arc-tail
-refused-requires-then-arc-tail c = omega (arith, c.if-arc-tail.true, (has _ _ c.refusal-found.ensures c.if-found-ne0.false).even.few_arcs)
+pub period-common-requires : goal.period-common-requires
+period-common-requires c = (sound _ c.in_ok-network.network.well).event_count.some
 
-pub returns-then-arc-tail : goal.returns-then-arc-tail
-returns-then-arc-tail c =
-    let k = clear_with _ _ c.refusal-found.ensures c.if-found-ne0.false in
-    let law = rebuild_12 _ _ _ k c.if-times-periods.false c.first_other-event.ensures c.if-event-periods.false in
-    rebuilt_refused {N = net _ _ _ _ _ _} (omega arith) c.refused-then-arc-tail.ensures (law c.first_astray-arc.ensures c.if-arc-tail.true)
+pub place_arcs-requires : goal.place_arcs-requires
+place_arcs-requires c =
+    rebuild_given _ _ _ (clear_rows _ c.in_ok-network.ensures) (omega (arith, c.if-times-count.false, c.events-count.ensures)) c.in_default.ensures
+    c.in_default-first_astray.ensures c.rows.view_is c.period-common.ensures c.events-count.ensures
 
-pub slice_bounds-label-end : goal.slice_bounds-label-end
-slice_bounds-label-end c = few _ _ c.refusal-found.ensures c.if-found-ne0.false
+pub at-requires-in-Err : goal.at-requires-in-Err
+at-requires-in-Err c = omega (arith, c.in-Err.ensures.impossible.inside, ap arcs c.rows.view_is, few_arcs c.in_ok-network.network.well)
 
-pub slice_bounds-restore-end : goal.slice_bounds-restore-end
-slice_bounds-restore-end c = sym (length-take-le _ _ (few _ _ c.refusal-found.ensures c.if-found-ne0.false))
-
-pub slice_bounds-row-end : goal.slice_bounds-row-end
-slice_bounds-row-end c = few _ _ c.refusal-found.ensures c.if-found-ne0.false
-
-pub slice_bounds-restore-end-2 : goal.slice_bounds-restore-end-2
-slice_bounds-restore-end-2 c = sym (length-take-le _ _ (few _ _ c.refusal-found.ensures c.if-found-ne0.false))
-
-pub restore-requires : goal.restore-requires
-restore-requires c =
-    let k = clear_with _ _ c.refusal-found.ensures c.if-found-ne0.false in
-    record {
-      sheet =
-          sheet_of _ _ _ k c.if-times-periods.false c.first_other-event.ensures c.if-event-periods.false c.first_astray-arc.ensures c.if-arc-tail.false;
-      label_long = length-take-le _ _ (few _ _ c.refusal-found.ensures c.if-found-ne0.false);
-      row_long = length-take-le _ _ (few _ _ c.refusal-found.ensures c.if-found-ne0.false);
-      room = c.if-times-periods.false;
-    }
+pub returns-in-Err : goal.returns-in-Err
+returns-in-Err c =
+    rw (c.at-in-Err.ensures, ← c.in_ok-network.ensures.0)
+    (rebuild_13 _ _ _ (clear_rows _ c.in_ok-network.ensures) (omega (arith, c.if-times-count.false, c.events-count.ensures)) c.in_default.ensures
+    c.in_default-first_astray.ensures c.rows.view_is c.period-common.ensures c.events-count.ensures c.in-Err.ensures)
 
 pub returns : goal.returns
 returns c =
-    let k = clear_with _ _ c.refusal-found.ensures c.if-found-ne0.false in
-    let sheet = sheet_of _ _ _ k c.if-times-periods.false c.first_other-event.ensures c.if-event-periods.false in
-    judged (judged_sheet _ _ _ (sheet c.first_astray-arc.ensures c.if-arc-tail.false) c.if-times-periods.false) c.restore.ensures
+    rw (← c.in_ok-network.ensures.0)
+    (rebuild_0 _ _ _ (clear_rows _ c.in_ok-network.ensures) (omega (arith, c.if-times-count.false, c.events-count.ensures)) c.in_default.ensures
+    c.in_default-first_astray.ensures c.rows.view_is c.period-common.ensures c.events-count.ensures c.in_default-place_arcs.ensures c.cost.ensures)

@@ -1,0 +1,2 @@
+-- The row of five numbers for each arc.
+pub mod Numbers
