@@ -18,7 +18,11 @@ impl<'a> Table<'a> {
         let gap = bar.gap;
         let low = (bar.shift + bar.run) % gap;
         let width = gap - 1 - bar.run;
-        let left = Span { low, width, gap };
+        let left = Span {
+            low: low as u16,
+            width: width as u16,
+            gap: gap as u16,
+        };
         self.narrow(bar.near as usize, bar.last as usize, left)
     }
 

@@ -33,9 +33,9 @@ fn append(table: &Table, longer: &mut [Bar], i: usize, j: usize, own: usize, cou
     let bar = Bar {
         near: i as u32,
         last: j as u32,
-        shift,
-        run: gap - 1 - width,
-        gap,
+        shift: u32::from(shift),
+        run: u32::from(gap - 1 - width),
+        gap: u32::from(gap),
     };
     longer[count] = bar;
     count + 1

@@ -1,12 +1,12 @@
 // Spans of the difference of two times.
 ghost use Rattle.closure.specs.Shapes.{Shape};
 
-// The differences from a lower bound on, as far as a width, by a gap.
+// The differences from a lower bound on, as far as a width, by a gap. 16 bits hold each number, and the table is half as large as with 32.
 #[derive(Clone, Copy)]
 pub struct Span {
-    pub low: u32,
-    pub width: u32,
-    pub gap: u32,
+    pub low: u16,
+    pub width: u16,
+    pub gap: u16,
     ghost shape: { Shape gap low width },
 }
 
@@ -28,7 +28,7 @@ impl Span {
     }
 
     // How far the lower bound of another span is behind this one's: by a comparison, for each is below the gap.
-    fn behind(self, other: Span) -> u32
+    fn behind(self, other: Span) -> u16
         requires { other.gap ≡ self.gap }
         ensures { result ≡ behind_of self.gap self.low other.low }
     {

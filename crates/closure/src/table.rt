@@ -44,7 +44,7 @@ fn gap_of(periods: &[u32], spans: &[Span], i: usize, j: usize) -> u32
     ensures { IsGcd (at periods.now i) (at periods.now j) result }
 {
     if j < i {
-        return spans[place(j, i)].gap;
+        return u32::from(spans[place(j, i)].gap);
     }
     numbers::gcd(periods[i], periods[j])
 }
@@ -55,7 +55,7 @@ fn widen_row(periods: &[u32], spans: &mut [Span], i: usize)
     ensures { Widening periods.now spans.new (i + 1) 0 }
 {
     for j in 0..periods.len() {
-        let gap = gap_of(periods, spans, i, j);
+        let gap = gap_of(periods, spans, i, j) as u16;
         let width = gap - 1;
         let wide = Span { low: 0, width, gap };
         spans[place(i, j)] = wide;
@@ -117,7 +117,7 @@ impl<'a> Table<'a> {
         if gap <= width {
             return Some(Change::Same);
         }
-        if rest(self.network.periods[k], gap) != 0 {
+        if rest(self.network.periods[k], u32::from(gap)) != 0 {
             return Some(Change::Same);
         }
         let low = (first.low + second.low) % gap;

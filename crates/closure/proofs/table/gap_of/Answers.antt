@@ -3,4 +3,4 @@ use Rattle.closure.proofs.Tables.{gap_stands}
 use Rattle.closure.proofs.table.gap_of.Goals as goal
 
 pub returns-then-j-i : goal.returns-then-j-i
-returns-then-j-i c = gap_stands _ c.place.ensures c.requires c.if-j-i.true
+returns-then-j-i c = rw c.from.ensures (gap_stands _ c.place.ensures c.requires c.if-j-i.true)

@@ -7,6 +7,12 @@ use Rattle.closure.proofs.table.widen_row.Goals as goal
 pub gap_of-gap-requires : goal.gap_of-gap-requires
 gap_of-gap-requires c = gap_asks c.requires.periodic c.requires.event c.loop-j-test.true c.loop-j.invariant
 
+pub overflow_cast-gap : goal.overflow_cast-gap
+overflow_cast-gap c = omega (arith, (gap_bounds c.requires.periodic c.requires.event c.loop-j-test.true c.gap_of-gap.ensures).1)
+
+pub overflow_sub-width : goal.overflow_sub-width
+overflow_sub-width c = (gap_bounds c.requires.periodic c.requires.event c.loop-j-test.true c.gap_of-gap.ensures).0
+
 pub invariant_of-wide : goal.invariant_of-wide
 invariant_of-wide c =
     let b = gap_bounds c.requires.periodic c.requires.event c.loop-j-test.true c.gap_of-gap.ensures in

@@ -9,4 +9,5 @@ narrow-requires c =
     let T = c.args.self.now in
     let r = c.requires in
     let g = ap (λ (x : Span). x.gap) (read_is T _ _ _ c.place-3.ensures r.0 r.2) in
-    via_asks T r.0 r.1 r.2 _ g (read_is T _ _ _ c.place.ensures r.0 r.1) (read_is T _ _ _ c.place-2.ensures r.1 r.2) refl refl (sym c.rest.ensures ∙ c.if-rest-ne0.false)
+    let left = rw c.from.ensures at (sym c.rest.ensures ∙ c.if-rest-ne0.false) in
+    via_asks T r.0 r.1 r.2 _ g (read_is T _ _ _ c.place.ensures r.0 r.1) (read_is T _ _ _ c.place-2.ensures r.1 r.2) refl refl left
