@@ -1,5 +1,5 @@
 -- The laws of the table of spans: its places, one span narrowed, the steps of the closure, and a table that holds every difference. Assumes nothing.
-use mathlib.Core.Path.{◌≡◌, ap, ◌∙◌}
+use mathlib.Core.Path.{◌≡◌, refl, sym, ap, ◌∙◌, subst}
 use mathlib.Core.Logic.{◌⊎◌, inl, inr}
 use mathlib.Core.List.{List}
 use Prim.Native.Nat.{ℕ, ◌+◌, ◌%◌, ◌∣◌, ◌<◌, ◌≤◌}
@@ -8,7 +8,7 @@ use native.Mathlib.Decide.{dec_lt}
 use native.Mathlib.Omega.{arith}
 use lib.ListN.{length, set, length-set}
 use lib.Seq.{get_or-set_same, get_or-set_other}
-use Rattle.std.specs.Prelude.{get_or}
+use Rattle.std.specs.Prelude.{get_or, Option, None, Some}
 use Rattle.std.proofs.lemmas.List.{get_or_default}
 use Rattle.numbers.specs.Divisor.{IsGcd, gcd}
 use Rattle.numbers.specs.Row.{at}
@@ -16,11 +16,13 @@ use Rattle.numbers.proofs.Divisors.{gcd_is, gcd_only, gcd_turned, gcd_le}
 use Rattle.search.specs.Lent.{lent}
 use Rattle.search.specs.Reduced.{Reduced, events_in, period_in, Fitting}
 use Rattle.closure.specs.declared.span.Span.{Span}
+use Rattle.closure.specs.declared.table.Change.{Change}
+use Rattle.closure.specs.declared.table.Change.TheVariants.{Same, Narrower}
 use Rattle.closure.specs.declared.table.Table.{Table}
 use Rattle.closure.specs.declared.table.TheConstants.{EVENTS, PLACES}
 use Rattle.closure.specs.Spans.{Within, Turned, Left}
-use Rattle.closure.specs.Steps.{events_of, span_of, NarrowAsks}
-use Rattle.closure.specs.Tables.{whole, spot, span_at, Spanned, Periodic, GapAsks, Wide, Widening}
+use Rattle.closure.specs.Steps.{events_of, span_of, NarrowAsks, Narrowed, Tighter}
+use Rattle.closure.specs.Tables.{whole, spot, span_at, Keeps, Spanned, Periodic, GapAsks, Wide, Widening, Opened}
 use Rattle.closure.proofs.Spans.{slack-below, turned, chained}
 
 -- ---- a place is one pair's only
@@ -56,22 +58,26 @@ module _ (T : List Span) (i j : ℕ) (s : Span) (long : length T ≡ PLACES) (hi
       pick (here a b) = rw (a, b, get_or-set_same T (spot i j) s whole (omega (arith, long, spot-below i j hi hj))) q
       pick (apart n) = rw (get_or-set_other T (spot i j) (spot x y) s whole n) (o (λ a b. n (λ k. spot (a k) (b k))))
 
+-- times that keep to the table, and to the span written, keep to the table after
+set_keeps : {periods : List ℕ} {T : List Span} {i j : ℕ} {s : Span} {u : List ℕ} → length periods ≤ EVENTS → length T ≡ PLACES → i < length periods
+    → j < length periods → Within s (at u i) (at u j) → Keeps periods T u → Keeps periods (set T (spot i j) s) u
+set_keeps {T = T} {i = i} {j = j} {s = s} {u = u} few long hi hj h k = record {
+  each = λ x y hx hy.
+      set-each T i j s long (omega (arith, hi, few)) (omega (arith, hj, few)) (λ x y s. Within s (at u x) (at u y)) h x y (omega (arith, hy, few))
+      (λ n. k.each x y hx hy);
+}
+
 module _ {R : Reduced} {T : List Span} {i j : ℕ} {s : Span} (few : events_in R ≤ EVENTS) (c : Spanned R T) (hi : i < events_in R) (hj : j < events_in R) where
   set_spanned : s.gap ≡ gcd (period_in R i) (period_in R j) → ((u : List ℕ) → Fitting R u → Within s (at u i) (at u j)) → Spanned R (set T (spot i j) s)
   set_spanned g h = record {
     long = length-set T (spot i j) s ∙ c.long;
-    gap_is = λ x y hx hy. each (λ x y s. s.gap ≡ gcd (period_in R x) (period_in R y)) g x y (small hy) (λ n. c.gap_is x y hx hy);
-    keeps = λ u f. record {
-      each = λ x y hx hy. each (λ x y s. Within s (at u x) (at u y)) (h u f) x y (small hy) (λ n. (c.keeps u f).each x y hx hy);
-    };
+    gap_is = λ x y hx hy.
+        set-each T i j s c.long (small hi) (small hj) (λ x y s. s.gap ≡ gcd (period_in R x) (period_in R y)) g x y (small hy) (λ n. c.gap_is x y hx hy);
+    keeps = λ u f. set_keeps few c.long hi hj (h u f) (c.keeps u f);
   }
     where
       small : {x : ℕ} → x < events_in R → x < EVENTS
       small h = omega (arith, few)
-
-      each : (Q : ℕ → ℕ → Span → Type 0) → Q i j s → (x y : ℕ) → y < EVENTS → ((x ≡ i → y ≡ j → ⊥) → Q x y (span_at T x y))
-          → Q x y (span_at (set T (spot i j) s) x y)
-      each = set-each T i j s c.long (small hi) (small hj)
 
 -- ---- a span read from a table
 
@@ -105,6 +111,23 @@ module _ {T : Table} {i j : ℕ} {by old : Span} (c : NarrowAsks T i j by) (old_
       holds : (u : List ℕ) → Fitting (lent T.network) u → Within s (at u i) (at u j)
       holds u f = l.keeps (at u i) (at u j) (old_holds u f) (c.holds u f)
 
+-- ---- a span narrowed by one that holds the difference of its events in all times that keep to the table
+
+module _ {T T' : Table} {i j : ℕ} {by : Span} (hi : i < events_of T) (hj : j < events_of T)
+    (holds : (u : List ℕ) → Keeps T.network.periods.now T.spans.now u → Within by (at u i) (at u j)) where
+  -- no such times are lost
+  pub narrowed_tighter : (r : Option Change) → Narrowed T T' i j by r → Tighter T T' r
+  narrowed_tighter None n = record { keeps = λ u k. absurd (n.1 (at u i) (at u j) (k.each i j hi hj) (holds u k)) }
+  narrowed_tighter (Some Same) e = record { keeps = λ u k. (refl, subst (λ (t : List Span). Keeps T.network.periods.now t u) (sym e) k) }
+  narrowed_tighter (Some Narrower) w = record {
+    keeps = λ u k.
+        let few = T.network.sized.few in
+        let h : Within w.span (at u i) (at u j) = w.left.keeps (at u i) (at u j) (k.each i j hi hj) (holds u k) in
+        let there = set_keeps few T.spanned.long hi hj h k in
+        let back = set_keeps few (length-set T.spans.now (spot i j) w.span ∙ T.spanned.long) hj hi (turned w.turned h) there in
+        (refl, subst (λ (t : List Span). Keeps T.network.periods.now t u) (sym w.spans) back);
+  }
+
 -- ---- through a third event
 
 module _ (T : Table) {i k j : ℕ} (hi : i < events_of T) (hk : k < events_of T) (hj : j < events_of T) (s : Span) (g : s.gap ≡ (span_of T i j).gap) where
@@ -121,17 +144,16 @@ module _ (T : Table) {i k j : ℕ} (hi : i < events_of T) (hk : k < events_of T)
     divides_two =
         rw (T.spanned.gap_is k j hk hj) ((gcd_is (period_in (lent T.network) k) (period_in (lent T.network) j)).greatest s.gap d both.right)
 
-  pub via_asks : {a b : Span} → a ≡ span_of T i k → b ≡ span_of T k j → s.low ≡ (a.low + b.low) % s.gap → s.width ≡ a.width + b.width
-      → period_in (lent T.network) k % s.gap ≡ 0 → NarrowAsks T i j s
-  via_asks {a} {b} p q l w e = record {
-    first = hi;
-    second = hj;
-    gap_is = g;
-    holds = λ u f.
+  module _ {a b : Span} (p : a ≡ span_of T i k) (q : b ≡ span_of T k j) (l : s.low ≡ (a.low + b.low) % s.gap) (w : s.width ≡ a.width + b.width)
+      (e : period_in (lent T.network) k % s.gap ≡ 0) where
+    -- two spans one after the other, in all times that keep to them
+    pub via_holds : (u : List ℕ) → Keeps T.network.periods.now T.spans.now u → Within s (at u i) (at u j)
+    via_holds u h =
         let d : s.gap ∣ period_in (lent T.network) k = dvd_of_mod-eq-zero s.gap e in
-        let h = T.spanned.keeps u f in
-        chained {a = a} {b = b} {via = at u k} (rw p (divides_one d)) (rw q (divides_two d)) l w (rw p (h.each i k hi hk)) (rw q (h.each k j hk hj));
-  }
+        chained {a = a} {b = b} {via = at u k} (rw p (divides_one d)) (rw q (divides_two d)) l w (rw p (h.each i k hi hk)) (rw q (h.each k j hk hj))
+
+    pub via_asks : NarrowAsks T i j s
+    via_asks = record { first = hi; second = hj; gap_is = g; holds = λ u f. via_holds u (T.spanned.keeps u f) }
 
 -- ---- a table that holds every difference, pair by pair
 
@@ -177,13 +199,19 @@ module _ {periods : List ℕ} (c : Periodic periods) where
         old x y hx hy (inr l) m = w.wide x y hx hy (inr (l.0, omega (arith, l.1, m l.0)))
 
 -- at the end every span is as wide as can be, and holds all times
-pub opened : {R : Reduced} {T : List Span} {i : ℕ} → Periodic R.periods → events_in R ≤ i → Widening R.periods T i 0 → Spanned R T
-opened {R} {T} c l w = record {
-  long = w.long;
-  gap_is = λ x y hx hy. (w.wide x y hx hy (inl (omega arith))).gap_is;
-  keeps = λ u f. record {
+pub opened : {periods : List ℕ} {T : List Span} {i : ℕ} → length periods ≤ i → Widening periods T i 0 → Opened periods T
+opened {periods} {T} l w = record {
+  all = λ u. record {
     each = λ x y hx hy.
         let s = span_at T x y in
         record { most = omega (arith, (w.wide x y hx hy (inl (omega arith))).width_is, slack-below s.gap s.low (at u x) (at u y) (omega (arith, s.shape.low_below))) };
   };
+}
+
+-- so it is a table of the network
+pub opened_spanned : {R : Reduced} {T : List Span} {i : ℕ} → events_in R ≤ i → Widening R.periods T i 0 → Spanned R T
+opened_spanned l w = record {
+  long = w.long;
+  gap_is = λ x y hx hy. (w.wide x y hx hy (inl (omega arith))).gap_is;
+  keeps = λ u f. (opened l w).all u;
 }

@@ -69,3 +69,7 @@ pub record WidenAsks (periods : List ℕ) (T : List Span) (i : ℕ) : Type 0 whe
   pub periodic : Periodic periods
   pub event : i < length periods
   pub before : Widening periods T i 0
+
+-- at the end: a table that any times keep to
+pub record Opened (periods : List ℕ) (T : List Span) : Type 0 where
+  pub all : (u : List ℕ) → Keeps periods T u

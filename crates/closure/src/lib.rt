@@ -15,7 +15,7 @@ mod table;
 use longer::ARCS;
 use network::WellFormed;
 use search::{Bar, NO_BAR, Reduced};
-use span::Span;
+pub use span::Span;
 use table::{PLACES, Table};
 
 // Room for a longer network.

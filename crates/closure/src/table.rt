@@ -3,7 +3,7 @@ ghost use Rattle.std.specs.Prelude.{◌≡◌, ◌+◌, ◌%◌, ◌<◌};
 ghost use Rattle.numbers.specs.Divisor.{IsGcd};
 ghost use Rattle.numbers.specs.Row.{at};
 ghost use Rattle.search.specs.Lent.{lent};
-ghost use Rattle.closure.specs.Tables.{spot, OpenAsks, GapAsks, WidenAsks, Widening, Spanned};
+ghost use Rattle.closure.specs.Tables.{spot, OpenAsks, GapAsks, WidenAsks, Widening, Opened, Spanned};
 
 use crate::span::Span;
 use search::Reduced;
@@ -74,12 +74,13 @@ fn rest(period: u32, gap: u32) -> u32
 }
 
 impl<'a> Table<'a> {
-    ghost use Rattle.closure.specs.Steps.{NarrowAsks, Step, Stays, events_of};
+    ghost use Rattle.closure.specs.Steps.{NarrowAsks, Narrowed, Step, Tighter, events_of};
 
     // Opens the table of a network: each two events get their gap, and a span that holds every difference.
     pub fn widen(network: Reduced<'a>, spans: &'a mut [Span]) -> Table<'a>
         requires { OpenAsks network.periods.now spans.old }
-        ensures { result.network ≡ network.entry }
+        ensures same_network { result.network ≡ network.entry }
+        ensures opened { Opened network.entry.periods.now result.spans.now }
     {
         for i in 0..network.periods.len() {
             widen_row(network.periods, spans, i);
@@ -91,7 +92,7 @@ impl<'a> Table<'a> {
     pub fn narrow(&mut self, i: usize, j: usize, by: Span) -> Option<Change>
         requires { NarrowAsks self.old i j by }
         ensures step { Step self.old self.new result }
-        ensures stays { Stays self.old self.new result }
+        ensures narrowed { Narrowed self.old self.new i j by result }
     {
         let there = place(i, j);
         let back = place(j, i);
@@ -108,7 +109,8 @@ impl<'a> Table<'a> {
     // Narrows the span of i and j by those of i and k and of k and j, one after the other.
     fn via(&mut self, i: usize, k: usize, j: usize) -> Option<Change>
         requires { (i < events_of self.old) × (k < events_of self.old) × (j < events_of self.old) }
-        ensures { Step self.old self.new result }
+        ensures step { Step self.old self.new result }
+        ensures tighter { Tighter self.old self.new result }
     {
         let first = self.spans[place(i, k)];
         let second = self.spans[place(k, j)];
@@ -129,7 +131,8 @@ impl<'a> Table<'a> {
     // contract for the step, would be no plainer.
     fn close_row(&mut self, i: usize, k: usize) -> Option<Change>
         requires { (i < events_of self.old) × (k < events_of self.old) }
-        ensures { Step self.old self.new result }
+        ensures step { Step self.old self.new result }
+        ensures tighter { Tighter self.old self.new result }
     {
         let mut change = Change::Same;
         for j in i + 1..self.network.periods.len() {
@@ -142,7 +145,8 @@ impl<'a> Table<'a> {
     // Narrows all spans through k.
     fn close_through(&mut self, k: usize) -> Option<Change>
         requires { k < events_of self.old }
-        ensures { Step self.old self.new result }
+        ensures step { Step self.old self.new result }
+        ensures tighter { Tighter self.old self.new result }
     {
         let mut change = Change::Same;
         for i in 0..self.network.periods.len() {
@@ -154,7 +158,8 @@ impl<'a> Table<'a> {
 
     // Narrows all spans through every event.
     pub fn close_round(&mut self) -> Option<Change>
-        ensures { Step self.old self.new result }
+        ensures step { Step self.old self.new result }
+        ensures tighter { Tighter self.old self.new result }
     {
         let mut change = Change::Same;
         for k in 0..self.network.periods.len() {

@@ -7,7 +7,7 @@ ghost use Rattle.network.specs.Refusals.{number};
 ghost use Rattle.gauge.specs.Gauge.{gauge, numbers, Shows};
 
 use closure::ROOM;
-use network::{Code, Network};
+use network::{Code, Network, WellFormed};
 use search::{Bar, NO_BAR};
 
 // How many numbers stand in the row for an arc.
@@ -56,6 +56,20 @@ fn write_arcs(bars: &[Bar], row: &mut [u32])
     }
 }
 
+// Writes the longer network of a well-formed one into a row with room. A function by itself: its own row of arcs is cleared only where nothing is refused.
+#[inline(never)]
+fn show(network: &WellFormed, longer: &mut [u32]) -> Gauge
+    requires { length longer.old ≡ NUMBERS * ROOM }
+    ensures { Shows network.now.rows longer.new result }
+{
+    let mut bars = [NO_BAR; ROOM];
+    let Some(closed) = closure::lengthen(network, &mut bars) else {
+        return shown(0, 0);
+    };
+    write_arcs(&bars[..closed.arcs], longer);
+    shown(closed.rounds, closed.arcs)
+}
+
 // Writes the longer network, five numbers for each arc, into a row of exactly 11,360 entries; code 9 where the row has another length.
 #[unsafe(no_mangle)]
 pub extern "C" fn rubblewaltz_gauge(
@@ -84,10 +98,5 @@ pub extern "C" fn rubblewaltz_gauge(
     if longer.len() != NUMBERS * ROOM {
         return refused(Code::Room);
     }
-    let mut bars = [NO_BAR; ROOM];
-    let Some(closed) = closure::lengthen(&network, &mut bars) else {
-        return shown(0, 0);
-    };
-    write_arcs(&bars[..closed.arcs], longer);
-    shown(closed.rounds, closed.arcs)
+    show(&network, longer)
 }

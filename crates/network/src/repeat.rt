@@ -42,7 +42,9 @@ fn is_same_rule(network: &Network, g: u32, left: u32, wide: u32, a: usize, b: us
     offset(g, low) == left && working_width(g, low, network.upper(a)) == wide
 }
 
-// From this link down, an arc that this one repeats: the loop follows the links. Its own offset and width are worked out once.
+// From this link down, an arc that this one repeats: the loop follows the links. Its own offset and width are worked out once. A function by itself: few arcs
+// come here, and the scan keeps its numbers in registers.
+#[inline(never)]
 fn matched(network: &Network, befores: &[u32], arc: usize, from: usize) -> Option<usize>
     requires { AsksMatched network.now befores.now arc from }
     ensures { Twin network.now arc result }

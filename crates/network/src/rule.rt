@@ -1,8 +1,9 @@
-// The public rule's numbers: slack and turn of two times, the working upper bound, and the width up to it; and the two rows of numbers that calls write.
+// The public rule's numbers: slack and turn of two times, the working upper bound, and the width up to it; and what calls ask of rows alone and write in them.
 ghost use Rattle.std.specs.Prelude.{◌≡◌, ◌≤◌, ◌<◌, pos, nat_abs, ◌+ℤ◌, ◌-ℤ◌, length};
 ghost use Rattle.numbers.specs.Row.{at};
+ghost use Rattle.network.specs.First.{FirstOf};
 ghost use Rattle.network.specs.PublicRule.{slack_by, turn_by, working_by};
-ghost use Rattle.network.specs.Rows.{written, short as short_of};
+ghost use Rattle.network.specs.Rows.{late, other, written, short as short_of};
 ghost use Rattle.network.specs.Inner.{Span, Turning};
 
 // Head time less tail time less lower.
@@ -51,6 +52,25 @@ pub fn working(g: u32, low: i32, high: i32) -> i32
     ensures { result ≡ working_by g low high }
 {
     high.min(raised(low, g - 1))
+}
+
+// The first event whose time is not below its period.
+pub fn first_late(periods: &[u32], times: &[u32]) -> Option<usize>
+    requires { length times.now ≡ length periods.now }
+    ensures { FirstOf (late periods.now times.now) (length periods.now) result }
+{
+    periods
+        .iter()
+        .zip(times)
+        .position(|(period, time)| period <= time)
+}
+
+// The first event whose period differs from that of event 0.
+pub fn first_other(periods: &[u32]) -> Option<usize>
+    ensures { FirstOf (other periods.now) (length periods.now) result }
+{
+    let common = periods.first()?;
+    periods.iter().position(|period| period != common)
 }
 
 // Has a row of tensions or of turns too few entries for m arcs?

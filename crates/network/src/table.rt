@@ -1,7 +1,7 @@
 // A network judged: its first refusal by one scan for all lines of the table, or that it is well-formed.
 ghost use Rattle.std.specs.Prelude.{◌≡◌, ◌<◌, length};
 ghost use Rattle.network.specs.First.{FirstOf};
-ghost use Rattle.network.specs.Judged.{Judged};
+ghost use Rattle.network.specs.Judged.{FirstRefusal, Judged};
 ghost use Rattle.network.specs.Network.{events, arcs, tail, head};
 ghost use Rattle.network.specs.Refusals.{number};
 ghost use Rattle.network.specs.Table.{outside, uneven, strays as strays_of, line};
@@ -113,14 +113,27 @@ impl<'a> Network<'a> {
         None
     }
 
-    // The network as it is, if no line of the table applies; a row of length `further` counts as an arc row.
-    pub fn judge(&self, further: usize) -> Result<WellFormed<'a>, Refused>
-        ensures { Judged self.now further result }
+    // The first refusal of the table; a row of length `further` counts as an arc row. A function by itself, so that
+    // `judge` is small enough for its callers, and its network does not go through memory.
+    #[inline(never)]
+    fn refusal(&self, further: usize) -> Option<Refused>
+        ensures { FirstRefusal self.now further result }
     {
         for code in ORDER {
             if let Some(place) = self.first_place(further, code) {
-                return Err(Refused::at(code, place));
+                return Some(Refused::at(code, place));
             }
+        }
+        None
+    }
+
+    // The network as it is, if no line of the table applies; a row of length `further` counts as an arc row.
+    #[inline]
+    pub fn judge(&self, further: usize) -> Result<WellFormed<'a>, Refused>
+        ensures { Judged self.now further result }
+    {
+        if let Some(refused) = self.refusal(further) {
+            return Err(refused);
         }
         Ok(WellFormed { rows: self.again() })
     }

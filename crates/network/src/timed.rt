@@ -3,7 +3,7 @@ ghost use Rattle.std.specs.Prelude.{◌≡◌, length};
 ghost use Rattle.network.specs.Network.{events};
 
 use crate::WellFormed;
-use crate::rule::{raised, slack_by, turn_by};
+use crate::rule::{first_late, raised, slack_by, turn_by};
 
 // The times need not be a timetable: each may be late.
 #[derive(Drop)]
@@ -63,10 +63,7 @@ impl<'a> Timed<'a> {
     pub fn first_late(&self) -> Option<usize>
         ensures { FirstOf (late self.now.network.rows.periods self.now.times.now) (events self.now.network.rows) result }
     {
-        let periods = self.network.rows.periods.iter();
-        periods
-            .zip(self.times)
-            .position(|(period, time)| period <= time)
+        first_late(self.network.rows.periods, self.times)
     }
 
     // The first arc in order that is not met.

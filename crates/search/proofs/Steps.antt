@@ -8,7 +8,7 @@ use native.Mathlib.Nat.{eq-or-lt_of_le}
 use native.Mathlib.Decide.{dec_lt}
 use native.Mathlib.Omega.{arith}
 use lib.ListN.{length, set, take, replicate, length-set}
-use Rattle.std.specs.Prelude.{None}
+use Rattle.std.specs.Prelude.{Option, Some, None}
 use lib.Seq.{get_or-set_same, get_or-set_other, ext_get_or}
 use Rattle.numbers.specs.Row.{at}
 use Rattle.network.specs.PublicRule.{Smaller}
@@ -17,7 +17,7 @@ use Rattle.search.specs.Reduced.{Reduced, arcs_in, events_in, period_in, near_in
 use Rattle.search.specs.Looked.{Sought}
 use Rattle.search.specs.Looked.Sought.{least_fits, none_fits}
 use Rattle.search.specs.Marks.{mark, Grown, Joined, EventAsks, AllMarked, Ruled, FreeAt, FirstFree}
-use Rattle.search.specs.Steps.{Agree, AgreeOn, Partial, BlockedOn, Ready, LeastFrom, Placed, NoneIn, Turn, Trying}
+use Rattle.search.specs.Steps.{Agree, AgreeOn, Partial, BlockedOn, Ready, LeastFrom, Placed, NoneIn, Turn, Trying, Next, reached}
 use Rattle.search.proofs.Agreeing.{agree_none, agree_refl, agree_sym, agree_trans, agree_fewer, agree_more, agree_set, agree_on, agree_ungrown, agree_deeper}
 use Rattle.search.proofs.Marking.{fresh, fresh_empty, grown_refl, grown_trans, joined-first, joined_second}
 
@@ -62,6 +62,34 @@ module _ {R : Reduced} {t : List ℕ} {k : ℕ} (s : Sized R) (c : Ready R t k) 
       met : (a : ℕ) → a < arcs_in R → (last_in R.bars a ≡ k) ⊎ (last_in R.bars a < k) → met_in R.bars (set t k x) a ≡ true
       met a m (inl q) = p a m q
       met a m (inr l) = before.met a m l
+
+-- ---- what is found at event k, by marks and walk together
+
+module _ {R : Reduced} {t : List ℕ} {k : ℕ} (s : Sized R) (c : Ready R t k) (e : k < events_in R) where
+  -- the next possible time
+  pub next : {x : ℕ} {row B : List Bool} (o : Option ℕ) → length row ≡ period_in R k → x ≤ period_in R k → AllMarked R t k row B → FirstFree row x o
+      → Next R t k B x (reached R k o)
+  next (Some r) l h w f = record {
+    least = f.least;
+    most = omega (arith, l, f.below);
+    passed = λ y p m. w.marked y (omega (arith, f.below)) (f.passed y p m);
+    fit = λ m. fit_all s c e r m (λ a i q. met-put s c e r a i q ∙ w.clear r f.below f.free a i q);
+  }
+  next None l h w f = record {
+    least = h;
+    most = omega arith;
+    passed = λ y p m. w.marked y (omega (arith, l)) (f y p (omega (arith, l)));
+    fit = λ m. absurd (omega arith);
+  }
+
+  -- what is found is decided: no time that fits is passed
+  not_passed : {B B' : List Bool} {x r z : ℕ} → Next R t k B x r → Next R t k B' x z → r < z → ⊥
+  not_passed {r = r} n o l =
+      let p = o.passed r n.least l in
+      true_false ((n.fit (omega (arith, o.most))).met p.arc p.below (omega (arith, p.ends))) (met-put s c e r p.arc p.below p.ends ∙ p.unmet)
+
+  pub next_one : {B B' : List Bool} {x r z : ℕ} → Next R t k B x r → Next R t k B' x z → r ≡ z
+  next_one n o = omega (arith, not_passed n o, not_passed o n)
 
 -- ---- times that are ruled out at event k
 

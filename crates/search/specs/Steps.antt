@@ -1,9 +1,9 @@
 -- What the steps of the search ask and say. Definitions alone.
-use Rattle.std.specs.Prelude.{◌≡◌, List, Bool, true, false, ℕ, ◌<◌, ◌≤◌, length}
+use Rattle.std.specs.Prelude.{◌≡◌, List, Bool, true, false, Option, ℕ, ◌+◌, ◌<◌, ◌≤◌, length, set, unwrap_or}
 use Rattle.numbers.specs.Row.{at}
 use Rattle.network.specs.PublicRule.{Smaller}
 use Rattle.search.specs.Reduced.{Reduced, arcs_in, events_in, period_in, last_in, met_in, Fitting}
-use Rattle.search.specs.Marks.{mark, Grown}
+use Rattle.search.specs.Marks.{mark, Grown, Ruled}
 
 -- the same times at the first k events
 pub record Agree (k : ℕ) (t u : List ℕ) : Type 0 where
@@ -54,3 +54,15 @@ pub record Trying (R : Reduced) (t : List ℕ) (k : ℕ) (B : List Bool) (u : Li
   pub turn : Turn R t k u B' x
   pub grown : Grown B B'
   pub within : x ≤ period_in R k
+
+-- what the finder finds beside the first k times of t: r is the next possible time of event k from x on, each one before it ruled out by an arc to a
+-- blamed event; or r is the period
+pub record Next (R : Reduced) (t : List ℕ) (k : ℕ) (B : List Bool) (x r : ℕ) : Type 0 where
+  pub least : x ≤ r
+  pub most : r ≤ period_in R k
+  pub passed : (y : ℕ) → x ≤ y → y < r → Ruled R t k B y
+  pub fit : r < period_in R k → Partial R (set t k r) (k + 1)
+
+-- the time that the walk gives, or the period where it gives none
+abbrev pub reached : Reduced → ℕ → Option ℕ → ℕ
+reached R k o = unwrap_or o (period_in R k)

@@ -1,19 +1,9 @@
 // Rebuild: tensions to a timetable.
-ghost use Rattle.network.specs.First.{FirstOf};
-ghost use Rattle.network.specs.Network.{events};
 ghost use Rattle.network.specs.Refusals.{answered};
-ghost use Rattle.network.specs.Rows.{other};
 ghost use Rattle.timetable.specs.Rebuild.{Rebuilt};
 
+use network::rule::first_other;
 use network::{Code, Network, Refused, Timed};
-
-// The first event whose period differs from that of event 0.
-fn first_other(network: &Network) -> Option<usize>
-    ensures { FirstOf (other network.now.periods) (events network.now) result }
-{
-    let common = network.periods.first()?;
-    network.periods.iter().position(|period| period != common)
-}
 
 // The timetable with these tensions in which the lowest event of each part stands at 0, and its cost.
 pub fn rebuild(network: &Network, tensions: &[i32], times: &mut [u32]) -> Result<u64, Refused>
@@ -25,7 +15,7 @@ pub fn rebuild(network: &Network, tensions: &[i32], times: &mut [u32]) -> Result
     if times.len() < count {
         return Err(Refused::at(Code::Room, 0));
     }
-    if let Some(event) = first_other(rows) {
+    if let Some(event) = first_other(rows.periods) {
         return Err(Refused::at(Code::OtherPeriod, event));
     }
     if let Some(arc) = network.first_astray(tensions) {

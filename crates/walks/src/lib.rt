@@ -80,17 +80,20 @@ impl<'a> Parts<'a> {
         ensures taken { Taken arc.now self.old.period self.old.marks.now self.new.marks.now result }
         ensures period { self.new.period ≡ self.old.period }
     {
-        let tail = self.marks[arc.tail];
-        let head = self.marks[arc.head];
-        let over = excess(tail.time, arc.tension, head.time, self.period);
-        if tail.label == head.label {
+        // Number by number: a mark read whole waits until both numbers that were written apart are in memory.
+        let tail_label = self.marks[arc.tail].label;
+        let head_label = self.marks[arc.head].label;
+        let tail_time = self.marks[arc.tail].time;
+        let head_time = self.marks[arc.head].time;
+        let over = excess(tail_time, arc.tension, head_time, self.period);
+        if tail_label == head_label {
             return over == 0;
         }
-        if tail.label < head.label {
-            self.relabel(head.label, tail.label, over);
+        if tail_label < head_label {
+            self.relabel(head_label, tail_label, over);
             return true;
         }
-        self.relabel(tail.label, head.label, (self.period - over) % self.period);
+        self.relabel(tail_label, head_label, (self.period - over) % self.period);
         true
     }
 

@@ -58,16 +58,16 @@ module _ {arc : Arc} {T s : ℕ} (marks : List Mark) (f : SFits w32 arc.tension)
       let M = subst (λ (a : Arc). Moved (length marks) (labels marks a.tail) (labels marks a.head) ((T - s) % T) T marks marks') (sym e) m in
       fits (tail_moved E L excess_is (subst (λ (a : Arc). labels marks a.head < labels marks a.tail) (sym e) l) (shifted marks marks' positive M.moved M.kept))
 
-pub returns-then-tail-head-clause-taken : goal.returns-then-tail-head-clause-taken
-returns-then-tail-head-clause-taken c = record {
+pub returns-then-tail_label-head_label-clause-taken : goal.returns-then-tail_label-head_label-clause-taken
+returns-then-tail_label-head_label-clause-taken c = record {
   marks_long = refl;
-  took = λ G te k e E L. in_one _ (search rules) c.excess-over.ensures G te k e E L c.if-tail-head.true;
+  took = λ G te k e E L. in_one _ (search rules) c.excess-over.ensures G te k e E L c.if-tail_label-head_label.true;
 }
 
-pub returns-then-tail-head-2-clause-taken : goal.returns-then-tail-head-2-clause-taken
-returns-then-tail-head-2-clause-taken c = record {
+pub returns-then-tail_label-head_label-2-clause-taken : goal.returns-then-tail_label-head_label-2-clause-taken
+returns-then-tail_label-head_label-2-clause-taken c = record {
   marks_long = c.relabel.ensures.moved.marks_long;
-  took = λ G te k e E L. head_joins _ (search rules) c.excess-over.ensures G te k e E L c.if-tail-head-2.true c.relabel.ensures.moved;
+  took = λ G te k e E L. head_joins _ (search rules) c.excess-over.ensures G te k e E L c.if-tail_label-head_label-2.true c.relabel.ensures.moved;
 }
 
 pub returns-clause-taken : goal.returns-clause-taken

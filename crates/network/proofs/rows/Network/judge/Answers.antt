@@ -1,31 +1,13 @@
--- The lines passed apply nowhere.
-use mathlib.Core.Path.{sym, ap, subst, ◌∙◌}
-use native.Mathlib.Omega.{arith}
-use Rattle.network.specs.declared.Refused.{Refused}
-use Rattle.network.specs.Refusals.{number, answer}
+-- Where no line applies the network is well-formed.
+use mathlib.Core.Path.{refl, sym, ap, subst}
+use Rattle.network.specs.declared.Answer.{Answer}
 use Rattle.network.specs.Table.{WellFormed}
-use Rattle.network.proofs.Refusing.{clear_all}
-use Rattle.network.proofs.Sound.{well_with}
-use Rattle.network.proofs.Trials.{turn, tried_more, tried_refused, tried_all}
+use Rattle.network.proofs.Sound.{clear_with, well_with}
 use Rattle.network.proofs.rows.Network.judge.Goals as goal
-
-pub first_place-requires : goal.first_place-requires
-first_place-requires c = (turn _ _ c.loop-code.code-index (omega arith) c.loop-code.invariant).asks
-
-pub at-requires : goal.at-requires
-at-requires c = omega (arith, c.in-Some.ensures.0, (turn _ _ c.loop-code.code-index (omega arith) c.loop-code.invariant).few)
-
-pub returns-in-Some : goal.returns-in-Some
-returns-in-Some c =
-    tried_refused _ _ c.loop-code.code-index (omega arith) c.loop-code.invariant c.in-Some.ensures
-    ∙ ap (λ (r : Refused). answer (number r.code) r.place 0) (sym c.at.ensures)
-
-pub loop-code-preserved : goal.loop-code-preserved
-loop-code-preserved c = tried_more _ _ c.loop-code.code-index (omega arith) c.loop-code.invariant c.in_default.ensures
 
 pub invariant_of-result : goal.invariant_of-result
 invariant_of-result c =
-    record { well = subst WellFormed (sym c.again.ensures) (well_with _ c.args.further (tried_all _ _ c.loop-code.invariant c.loop-code-test.false)) }
+    record { well = subst WellFormed (sym c.again.ensures) (well_with _ _ (clear_with _ _ refl (ap (λ (a : Answer). a.code) c.in_default.ensures))) }
 
 pub returns : goal.returns
-returns c = (c.again.ensures, clear_all 0 (tried_all _ _ c.loop-code.invariant c.loop-code-test.false))
+returns c = (c.again.ensures, c.in_default.ensures)
